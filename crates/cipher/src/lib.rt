@@ -1,0 +1,1 @@
+// AES (FIPS 197): one block of 16 bytes, each way.

@@ -1,0 +1,1 @@
+// No code: definitions that several crates cite are in specs/, their laws in proofs/.
