@@ -32,10 +32,10 @@ ShiftRows s = stateOf (λ r c. at s r ((c + r) % 4))
 unfoldable pub mixed : ℕ → ℕ → ℕ → ℕ → List ℕ → List ℕ
 mixed a₀ a₁ a₂ a₃ s =
     stateOf
-      (λ r c.
-        bitXor
-          (bitXor (a₀ • at s r c) (a₃ • at s ((r + 1) % 4) c))
-          (bitXor (a₂ • at s ((r + 2) % 4) c) (a₁ • at s ((r + 3) % 4) c)))
+    (λ r c.
+    bitXor
+    (bitXor (a₀ • at s r c) (a₃ • at s ((r + 1) % 4) c))
+    (bitXor (a₂ • at s ((r + 2) % 4) c) (a₁ • at s ((r + 3) % 4) c)))
 
 unfoldable pub MixColumns : List ℕ → List ℕ
 MixColumns = mixed 0x02 0x01 0x01 0x03
@@ -74,8 +74,8 @@ word w i = take 4 (drop (4 * i) w)
 unfoldable pub temp : ℕ → List ℕ → ℕ → List ℕ
 temp Nk w i =
     cond (eqb (i % Nk) 0)
-      (SubWord (RotWord (word w (i - 1))) ⊕ Rcon (i / Nk))
-      (cond (ltb 6 Nk && eqb (i % Nk) 4) (SubWord (word w (i - 1))) (word w (i - 1)))
+    (SubWord (RotWord (word w (i - 1))) ⊕ Rcon (i / Nk))
+    (cond (ltb 6 Nk && eqb (i % Nk) 4) (SubWord (word w (i - 1))) (word w (i - 1)))
 
 -- the key schedule's first Nk + n words, from a key of 4 * Nk bytes
 unfoldable pub expanded : ℕ → ℕ → List ℕ → List ℕ

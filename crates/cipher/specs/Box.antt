@@ -12,7 +12,7 @@ byteOf (suc i) f = byteOf i f + f i * 2 ^ i
 unfoldable pub affine : ℕ → ℕ
 affine b =
     byteOf 8
-      (λ i. (bit i b + bit ((i + 4) % 8) b + bit ((i + 5) % 8) b + bit ((i + 6) % 8) b + bit ((i + 7) % 8) b + bit i 0x63) % 2)
+    (λ i. (bit i b + bit ((i + 4) % 8) b + bit ((i + 5) % 8) b + bit ((i + 6) % 8) b + bit ((i + 7) % 8) b + bit i 0x63) % 2)
 
 -- its inverse: b′_i = b_(i+2) + b_(i+5) + b_(i+7) + d_i, with d = {05}
 unfoldable pub affineInverse : ℕ → ℕ

@@ -31,7 +31,6 @@ unfoldable pub _•_ : ℕ → ℕ → ℕ
 b • c = productBelow 8 b c
 
 infixl 70 _•_
-
 -- §4.4: the inverse of b, which is b^254; {00} is mapped to itself. The powers 2, 4, .., 128 multiplied
 unfoldable pub power2 : ℕ → ℕ → ℕ
 power2 zero b = b

@@ -55,16 +55,16 @@ block p i = tabulate 16 (λ t. number (take 4 (drop (64 * i + 4 * t) p)))
 -- §5.3.3: the initial hash value
 unfoldable pub H⁰ : Working
 H⁰ =
-    record
-      { a = 0x6a09e667
-      ; b = 0xbb67ae85
-      ; c = 0x3c6ef372
-      ; d = 0xa54ff53a
-      ; e = 0x510e527f
-      ; f = 0x9b05688c
-      ; g = 0x1f83d9ab
-      ; h = 0x5be0cd19
-      }
+    record {
+      a = 0x6a09e667;
+      b = 0xbb67ae85;
+      c = 0x3c6ef372;
+      d = 0xa54ff53a;
+      e = 0x510e527f;
+      f = 0x9b05688c;
+      g = 0x1f83d9ab;
+      h = 0x5be0cd19;
+    }
 
 -- §6.2.2, step 1: the message schedule. W_t is M_t up to 15, and from 16 on made of earlier words
 unfoldable pub nextWord : List ℕ → ℕ → ℕ
@@ -87,16 +87,16 @@ T₂ v = mod32 (Σ0 (v .a) + Maj (v .a) (v .b) (v .c))
 
 unfoldable pub turn : ℕ → ℕ → Working → Working
 turn k w v =
-    record
-      { a = mod32 (T₁ k w v + T₂ v)
-      ; b = v .a
-      ; c = v .b
-      ; d = v .c
-      ; e = mod32 (v .d + T₁ k w v)
-      ; f = v .e
-      ; g = v .f
-      ; h = v .g
-      }
+    record {
+      a = mod32 (T₁ k w v + T₂ v);
+      b = v .a;
+      c = v .b;
+      d = v .c;
+      e = mod32 (v .d + T₁ k w v);
+      f = v .e;
+      g = v .f;
+      h = v .g;
+    }
 
 -- the working variables after t turns
 unfoldable pub turns : List ℕ → ℕ → Working → Working
@@ -106,16 +106,16 @@ turns M (suc t) v = turn (getD K t 0) (W M t) (turns M t v)
 -- §6.2.2, step 4: the next hash value
 unfoldable pub added : Working → Working → Working
 added v H =
-    record
-      { a = mod32 (v .a + H .a)
-      ; b = mod32 (v .b + H .b)
-      ; c = mod32 (v .c + H .c)
-      ; d = mod32 (v .d + H .d)
-      ; e = mod32 (v .e + H .e)
-      ; f = mod32 (v .f + H .f)
-      ; g = mod32 (v .g + H .g)
-      ; h = mod32 (v .h + H .h)
-      }
+    record {
+      a = mod32 (v .a + H .a);
+      b = mod32 (v .b + H .b);
+      c = mod32 (v .c + H .c);
+      d = mod32 (v .d + H .d);
+      e = mod32 (v .e + H .e);
+      f = mod32 (v .f + H .f);
+      g = mod32 (v .g + H .g);
+      h = mod32 (v .h + H .h);
+    }
 
 unfoldable pub compress : Working → List ℕ → Working
 compress H M = added (turns M 64 H) H

@@ -37,13 +37,13 @@ module _ {A : Type 0} where
   pub tabulate-getD : (d : A) (l : List A) → tabulate (length l) (λ i. getD l i d) ≡ l
   tabulate-getD d l =
       ext-getD d (tabulate (length l) (λ i. getD l i d)) l (length-tabulate (length l) (λ i. getD l i d))
-        (λ i h. getD-tabulate (length l) (λ j. getD l j d) i d (rw length-tabulate at h))
+      (λ i h. getD-tabulate (length l) (λ j. getD l j d) i d (rw length-tabulate at h))
 
   -- a list with n elements, given one by one
   pub is-tabulate : (d : A) (n : ℕ) (f : ℕ → A) (l : List A) → length l ≡ n → ((i : ℕ) → i < n → getD l i d ≡ f i) → l ≡ tabulate n f
   is-tabulate d n f l e h =
       ext-getD d l (tabulate n f) (e ∙ sym (length-tabulate n f))
-        (λ i p. h i (rw e at p) ∙ sym (getD-tabulate n f i d (rw e at p)))
+      (λ i p. h i (rw e at p) ∙ sym (getD-tabulate n f i d (rw e at p)))
 
   -- a buffer of which the first i elements are f's: nothing yet, one more, and all
   unfoldable pub filledTo : ℕ → (ℕ → A) → List A → List A

@@ -2,6 +2,8 @@
 -- Assumes nothing.
 use Prim.Native.Nat.{ℕ, zero, suc, _+_, _*_, _/_, _%_}
 use mathlib.Core.List.{List, [], _∷_, _++_}
+use mathlib.Core.Bool.{Bool, true, false, _&&_}
+use lib.Dec.{eqb}
 use lib.Bits.{bitXor}
 
 module _ {A : Type 0} where
@@ -31,3 +33,13 @@ unfoldable pub _⊕_ : List ℕ → List ℕ → List ℕ
 (x ∷ xs) ⊕ (y ∷ ys) = bitXor x y ∷ (xs ⊕ ys)
 
 infixl 60 _⊕_
+-- whether two lists are the same, byte by byte
+unfoldable pub sameBytes : List ℕ → List ℕ → Bool
+sameBytes [] [] = true
+sameBytes [] (y ∷ ys) = false
+sameBytes (x ∷ xs) [] = false
+sameBytes (x ∷ xs) (y ∷ ys) = eqb x y && sameBytes xs ys
+
+unfoldable pub allZero : List ℕ → Bool
+allZero [] = true
+allZero (x ∷ xs) = eqb x 0 && allZero xs

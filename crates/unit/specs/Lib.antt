@@ -1,0 +1,5 @@
+pub mod Numbers
+pub mod Refusals
+pub mod Change
+pub mod WellFormed
+pub mod Outcome

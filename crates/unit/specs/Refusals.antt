@@ -1,0 +1,32 @@
+-- "The refusal list": the number of each refusal, and how the end of a call is read. Assumes nothing.
+use Prim.Native.Nat.{ℕ}
+use lib.ListN.{length}
+use Rattle.laws.specs.Answer.{Result, gives, refuses}
+use Rattle.unit.specs.declared.Refusal.{Refusal}
+use Rattle.unit.specs.declared.Refusal.the-variants.{NotAuthenticated, InvalidValue, NoConsent, OutOfRange, NotWellFormed, WrongNonce, WrongAccountKey, NoFrame, NoRoom}
+use Rattle.unit.specs.declared.Reply.{Reply}
+use Rattle.unit.specs.declared.Reply.the-variants.{Done, Refused}
+
+abbrev pub number : Refusal → ℕ
+number NotAuthenticated = 0x80
+number InvalidValue = 0x81
+number NoConsent = 0x82
+number OutOfRange = 1
+number NotWellFormed = 2
+number WrongNonce = 3
+number WrongAccountKey = 4
+number NoFrame = 5
+number NoRoom = 6
+
+-- How a call ended: with a count of answer bytes written, or with the number of a refusal
+pub data End : Type 0 where
+  wrote : ℕ → End
+  refused : ℕ → End
+
+abbrev pub endOf : Reply → End
+endOf (Done n) = wrote n
+endOf (Refused r) = refused (number r)
+
+abbrev pub ending : Result → End
+ending (gives answer) = wrote (length answer)
+ending (refuses n) = refused n

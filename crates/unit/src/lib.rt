@@ -1,0 +1,108 @@
+// What a tag unit holds: the unit record of the paper's "What a unit holds", by value. Any values at all may stand in a record;
+// `well_formed` judges them.
+
+// Calibrated power in dBm at 0 m, the number of components that can ring, and whether the volume is selectable (0 or 1).
+pub struct Settings {
+    pub power: i32,
+    pub components: u8,
+    pub selectable: u8,
+}
+
+// Seconds and a tenth of a second, 0 to 9.
+pub struct Clock {
+    pub seconds: u32,
+    pub tenth: u8,
+}
+
+// The last issued nonce, if any, and whether it is live: not yet spent by a write.
+pub struct Nonce {
+    pub held: bool,
+    pub live: bool,
+    pub bytes: [u8; 8],
+}
+
+pub struct AccountKey {
+    pub bytes: [u8; 16],
+}
+
+// The owner's place among the account keys.
+pub enum Owner {
+    Nobody,
+    Place(usize),
+}
+
+// The account keys in order of arrival, the first `count` of the five places.
+pub struct Accounts {
+    pub count: usize,
+    pub keys: [AccountKey; 5],
+}
+
+// The identity key (ephemeral identity key), if one is held.
+pub struct Identity {
+    pub held: bool,
+    pub bytes: [u8; 32],
+}
+
+// Silent, or ringing the components of a mask at a volume, with the tenths left.
+pub enum Sound {
+    Silent,
+    Ringing { mask: u8, volume: u8, left: u16 },
+}
+
+// Unwanted tracking protection: off, or on with the flag that lets a ring skip authentication.
+pub enum Protection {
+    Off,
+    On { skip: bool },
+}
+
+// The ephemeral identifier that the host lends for a window of 1,024 seconds, with the r it came from.
+pub struct Identifier {
+    pub held: bool,
+    pub r: [u8; 20],
+    pub id: [u8; 20],
+    pub window: u32,
+}
+
+pub struct TagUnit {
+    pub settings: Settings,
+    pub clock: Clock,
+    pub nonce: Nonce,
+    pub accounts: Accounts,
+    pub owner: Owner,
+    pub identity: Identity,
+    pub sound: Sound,
+    // The nonce of the accepted ring, zero while silent.
+    pub ring_nonce: [u8; 8],
+    pub protection: Protection,
+    // Tenths of consent left after a press of the button.
+    pub consent: u16,
+    pub pairing: bool,
+    // 0 unsupported, 1 normal, 2 low, 3 critical.
+    pub battery: u8,
+    pub identifier: Identifier,
+}
+
+// The refusals of the paper's list; `number` in specs/ gives each its number.
+pub enum Refusal {
+    NotAuthenticated,
+    InvalidValue,
+    NoConsent,
+    OutOfRange,
+    NotWellFormed,
+    WrongNonce,
+    WrongAccountKey,
+    NoFrame,
+    NoRoom,
+}
+
+// The end of a call: how many answer bytes it wrote, or its refusal.
+pub enum Reply {
+    Done(usize),
+    Refused(Refusal),
+}
+
+// The unit after a call, and the call's end.
+pub struct Step {
+    pub unit: TagUnit,
+    pub reply: Reply,
+}
