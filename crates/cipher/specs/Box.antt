@@ -3,7 +3,7 @@ use Prim.Native.Nat.{ℕ, zero, suc, _+_, _*_, _^_, _%_}
 use lib.Bits.{bitXor}
 use Rattle.cipher.specs.Field.{bit, inverse}
 
--- the sum of f 0, .., f 7 at the places 0, .., 7 of a byte
+-- the sum of f 0, .., f (n - 1) at the places 0, .., n - 1
 unfoldable pub byteOf : ℕ → (ℕ → ℕ) → ℕ
 byteOf zero f = 0
 byteOf (suc i) f = byteOf i f + f i * 2 ^ i
@@ -14,7 +14,8 @@ affine b =
     byteOf 8
     (λ i. (bit i b + bit ((i + 4) % 8) b + bit ((i + 5) % 8) b + bit ((i + 6) % 8) b + bit ((i + 7) % 8) b + bit i 0x63) % 2)
 
--- its inverse: b′_i = b_(i+2) + b_(i+5) + b_(i+7) + d_i, with d = {05}
+-- §5.3.2 asks for the inverse of the affine step without writing it out; it is b′_i = b_(i+2) + b_(i+5) + b_(i+7) + d_i, with d = {05}.
+-- That it undoes the affine step is part of the test over all bytes
 unfoldable pub affineInverse : ℕ → ℕ
 affineInverse b =
     byteOf 8 (λ i. (bit ((i + 2) % 8) b + bit ((i + 5) % 8) b + bit ((i + 7) % 8) b + bit i 0x05) % 2)

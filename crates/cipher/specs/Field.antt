@@ -1,4 +1,4 @@
--- The field GF(2^8) of FIPS 197, §4: a byte is a polynomial of degree below 8, taken modulo x^8 + x^4 + x^3 + x + 1.
+-- The field GF(2^8) of FIPS 197 (2001; clause numbers of that edition), §4: a byte is a polynomial of degree below 8, taken modulo x^8 + x^4 + x^3 + x + 1.
 -- Assumes nothing.
 use Prim.Native.Nat.{ℕ, zero, suc, _+_, _*_, _/_, _%_, _^_}
 use mathlib.Core.Bool.{cond}
@@ -31,7 +31,8 @@ unfoldable pub _•_ : ℕ → ℕ → ℕ
 b • c = productBelow 8 b c
 
 infixl 70 _•_
--- §4.4: the inverse of b, which is b^254; {00} is mapped to itself. The powers 2, 4, .., 128 multiplied
+-- §4.2: the multiplicative inverse, with {00} mapped to itself (§5.1.1): as b^254, which the update of 2023 gives in its §4.4. The powers
+-- 2, 4, .., 128 multiplied. That b • inverse b is {01} is part of the test over all bytes
 unfoldable pub power2 : ℕ → ℕ → ℕ
 power2 zero b = b
 power2 (suc i) b = power2 i b • power2 i b

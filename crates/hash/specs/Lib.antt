@@ -1,3 +1,5 @@
 pub mod Sha256
 pub mod Constants
 pub mod Hmac
+pub mod Passes
+pub mod Padding

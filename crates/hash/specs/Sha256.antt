@@ -41,14 +41,15 @@ unfoldable pub σ1 : ℕ → ℕ
 σ1 x = bitXor (bitXor (ROTR 17 x) (ROTR 19 x)) (SHR 10 x)
 
 -- §5.1.1: after the message a one bit, then the fewest zero bits that leave 64 of a block of 512, then the message's length in
--- bits as 64 bits. In bytes: 0x80, the smallest k with l + 1 + k ≡ 56 (mod 64) zeros, and eight bytes
+-- bits as 64 bits. In bytes: 0x80, the smallest k with l + 1 + k ≡ 56 (mod 64) zeros (55 - l modulo 64), and eight
+-- bytes. The length field holds for messages under 2^64 bits
 unfoldable pub zeros : ℕ → ℕ
-zeros l = (119 - l % 64) % 64
+zeros l = (55 + 64 - l % 64) % 64
 
 unfoldable pub pad : List ℕ → List ℕ
 pad m = m ++ (0x80 ∷ replicate (zeros (length m)) 0) ++ bigEndian 8 (8 * length m)
 
--- §5.2.1: block i of the padded message, sixteen words
+-- §5.2.1: block i of the padded message, counted from 0 (the standard's M^(i+1)), sixteen words
 unfoldable pub block : List ℕ → ℕ → List ℕ
 block p i = tabulate 16 (λ t. number (take 4 (drop (64 * i + 4 * t) p)))
 
@@ -103,7 +104,7 @@ unfoldable pub turns : List ℕ → ℕ → Working → Working
 turns M zero v = v
 turns M (suc t) v = turn (getD K t 0) (W M t) (turns M t v)
 
--- §6.2.2, step 4: the next hash value
+-- §6.2.2, step 4: the next hash value. Its words H_0 to H_7 stand in the fields a to h
 unfoldable pub added : Working → Working → Working
 added v H =
     record {
@@ -117,6 +118,7 @@ added v H =
       h = mod32 (v .h + H .h);
     }
 
+-- §6.2.2, steps 2 to 4
 unfoldable pub compress : Working → List ℕ → Working
 compress H M = added (turns M 64 H) H
 

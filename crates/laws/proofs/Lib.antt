@@ -1,1 +1,10 @@
 pub mod Tabulate
+pub mod Joined
+pub mod BigEndian
+pub mod Masked
+pub mod Table
+pub mod Xor
+pub mod Flags
+pub mod Same
+pub mod Copied
+pub mod Elements

@@ -7,7 +7,7 @@ use native.Mathlib.Omega.{arith}
 use native.Mathlib.Numerals.{add-one}
 use native.Mathlib.Decide.{decLt}
 use lib.ListN.{length, getD, drop, set, length-append, List·getD-append}
-use lib.Seq.{ext-getD, getD-at, drop-cons, set-at, drop-length}
+use lib.Seq.{ext-getD, getD-at, getD-append-add, getD-drop, drop-cons, set-at, drop-length}
 use Rattle.laws.specs.Bytes.{tabulate}
 
 module _ {A : Type 0} where
@@ -66,3 +66,28 @@ module _ {A : Type 0} where
       ap (λ (n : ℕ). tabulate i f ++ drop n xs) e
       ∙ ap (λ (t : List A). tabulate i f ++ t) (drop-length xs)
       ∙ append-nil (tabulate i f)
+
+  -- one turn of a loop that fills a buffer: the store, and the next place
+  pub filled-turn : (f : ℕ → A) (xs out : List A) (i : ℕ) (a d : A) → i < length xs → out ≡ filledTo i f xs → a ≡ f i
+      → set out i a ≡ filledTo (i + 1) f xs
+  filled-turn f xs out i a d h e q = rw (e, q, add-one) (filled-more f xs i d h)
+
+  -- an element of the first i, and one of the rest
+  pub filled-done : (f : ℕ → A) (xs : List A) (i j : ℕ) (d : A) → j < i → getD (filledTo i f xs) j d ≡ f j
+  unfolding filledTo
+  filled-done f xs i j d h =
+      List·getD-append (tabulate i f) (drop i xs) d j (rw length-tabulate h) ∙ getD-tabulate i f j d h
+
+  pub filled-rest : (f : ℕ → A) (xs : List A) (i j : ℕ) (d : A) → i ≤ j → getD (filledTo i f xs) j d ≡ getD xs j d
+  unfolding filledTo
+  filled-rest f xs i j d h =
+      let e : length (tabulate i f) + (j - i) ≡ j = rw length-tabulate (omega arith) in
+      let e' : i + (j - i) ≡ j = omega arith in
+      ap (λ (n : ℕ). getD (filledTo i f xs) n d) (sym e)
+      ∙ getD-append-add (tabulate i f) (drop i xs) (j - i) d
+      ∙ getD-drop i xs (j - i) d
+      ∙ ap (λ (n : ℕ). getD xs n d) e'
+
+  pub tabulate-suc : (n : ℕ) (f : ℕ → A) → tabulate (suc n) f ≡ tabulate n f ++ (f n ∷ [])
+  unfolding tabulate
+  tabulate-suc n f = refl

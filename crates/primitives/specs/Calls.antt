@@ -7,7 +7,7 @@ use lib.Dec.{leb, eqb}
 use lib.ListN.{length}
 use Rattle.laws.specs.Answer.{Result, gives, refuses, lentAfter}
 use Rattle.primitives.specs.Standards.{SHA256, HMAC, AES128, InvAES128}
-use Rattle.primitives.specs.declared.Outcome.{Outcome}
+use Rattle.primitives.specs.declared.Ending.{Ending}
 
 -- "SHA-256 and HMAC over messages up to 65,535 bytes"
 abbrev pub longestMessage : ℕ
@@ -35,15 +35,15 @@ unfoldable pub decrypted : List ℕ → List ℕ → ℕ → Result
 decrypted key block room = orRefusal (eqb (length key) 16 && (eqb (length block) 16 && eqb room 16)) (InvAES128 key block)
 
 -- The paper's number for each end of a call: 0 where it is no refusal
-abbrev pub number : Outcome → ℕ
-number Outcome.Done = 0
-number Outcome.WrongSize = refusalNumber
+abbrev pub number : Ending → ℕ
+number Ending.Done = 0
+number Ending.WrongSize = refusalNumber
 
 abbrev pub numberOf : Result → ℕ
 numberOf (gives answer) = 0
 numberOf (refuses n) = n
 
 -- What a call promises of its end and of all the lent bytes, which were `before` and are `after`
-pub record Answers (result : Result) (end : Outcome) (before after : List ℕ) : Type 0 where
+pub record Answers (result : Result) (end : Ending) (before after : List ℕ) : Type 0 where
   pub endIs : number end ≡ numberOf result
   pub bytesAre : after ≡ lentAfter result before

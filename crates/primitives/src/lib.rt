@@ -1,7 +1,176 @@
-// The hash, the message authentication code and the block cipher that the tag uses.
+// The hash, the message authentication code and the block cipher that the tag uses: the public calls, which refuse a wrong size with 7,
+// and the same work on sizes that are known to be right, for the crates above.
+ghost use mathlib.Core.Path.{_≡_};
+ghost use mathlib.Core.List.{_++_};
+ghost use Prim.Native.Nat.{_≤_};
+ghost use lib.ListN.{length};
+ghost use Rattle.primitives.specs.Standards.{SHA256, HMAC, AES128, InvAES128};
+ghost use Rattle.primitives.specs.Calls.{Answers, hashed, authenticated, encrypted, decrypted};
 
 // The end of a call: the answer is written, or a length is not as the call asks (refusal 7) and nothing is written.
-pub enum Outcome {
+pub enum Ending {
     Done,
     WrongSize,
+}
+
+// The longest message and the longest HMAC key.
+const LONGEST: usize = 65535;
+
+// The bytes of a digest and of an HMAC; and of an AES key and of a block.
+const DIGEST: usize = 32;
+
+const BLOCK: usize = 16;
+
+// SHA-256 of a message of up to 65,535 bytes, into an answer of 32 bytes. Refusal: 7.
+pub fn sha256(message: &[u8], answer: &mut [u8]) -> Ending
+    ensures { λ r. ⌜ Answers (hashed (now (message .entry)) (length (now (answer .entry)))) r (now (answer .entry)) (now (answer .exit)) ⌝ }
+{
+    if LONGEST < message.len() {
+        return Ending::WrongSize;
+    }
+    if answer.len() != DIGEST {
+        return Ending::WrongSize;
+    }
+    let digest = hash_pair(message, b"");
+    fill(answer, &digest);
+    Ending::Done
+}
+
+// HMAC-SHA-256 under a key of up to 65,535 bytes of a message of as many, into an answer of 32 bytes. Refusal: 7.
+pub fn hmac_sha256(key: &[u8], message: &[u8], answer: &mut [u8]) -> Ending
+    ensures { λ r. ⌜ Answers (authenticated (now (key .entry)) (now (message .entry)) (length (now (answer .entry)))) r (now (answer .entry)) (now (answer .exit)) ⌝ }
+{
+    if LONGEST < key.len() {
+        return Ending::WrongSize;
+    }
+    if LONGEST < message.len() {
+        return Ending::WrongSize;
+    }
+    if answer.len() != DIGEST {
+        return Ending::WrongSize;
+    }
+    let tag = mac(key, message, b"", b"");
+    fill(answer, &tag);
+    Ending::Done
+}
+
+// HMAC-SHA-256 of a message that is handed in as a head, a tail and a last part, none of them copied. Refusal: 7.
+pub fn hmac_sha256_parts(
+    key: &[u8],
+    head: &[u8],
+    tail: &[u8],
+    last: &[u8],
+    answer: &mut [u8],
+) -> Ending
+    ensures { λ r. ⌜ Answers (authenticated (now (key .entry)) (now (head .entry) ++ (now (tail .entry) ++ now (last .entry))) (length (now (answer .entry)))) r (now (answer .entry)) (now (answer .exit)) ⌝ }
+{
+    if LONGEST < key.len() {
+        return Ending::WrongSize;
+    }
+    if LONGEST < head.len() {
+        return Ending::WrongSize;
+    }
+    if LONGEST < tail.len() {
+        return Ending::WrongSize;
+    }
+    if LONGEST < last.len() {
+        return Ending::WrongSize;
+    }
+    if LONGEST < head.len() + (tail.len() + last.len()) {
+        return Ending::WrongSize;
+    }
+    if answer.len() != DIGEST {
+        return Ending::WrongSize;
+    }
+    let tag = mac(key, head, tail, last);
+    fill(answer, &tag);
+    Ending::Done
+}
+
+// AES-128 of a block of 16 bytes under a key of 16 bytes, into an answer of 16 bytes. Refusal: 7.
+pub fn aes128_encrypt(key: &[u8], block: &[u8], answer: &mut [u8]) -> Ending
+    ensures { λ r. ⌜ Answers (encrypted (now (key .entry)) (now (block .entry)) (length (now (answer .entry)))) r (now (answer .entry)) (now (answer .exit)) ⌝ }
+{
+    if key.len() != BLOCK {
+        return Ending::WrongSize;
+    }
+    if block.len() != BLOCK {
+        return Ending::WrongSize;
+    }
+    if answer.len() != BLOCK {
+        return Ending::WrongSize;
+    }
+    let done = encrypt(sixteen(key), sixteen(block));
+    fill(answer, &done);
+    Ending::Done
+}
+
+// Its inverse, with the same sizes. Refusal: 7.
+pub fn aes128_decrypt(key: &[u8], block: &[u8], answer: &mut [u8]) -> Ending
+    ensures { λ r. ⌜ Answers (decrypted (now (key .entry)) (now (block .entry)) (length (now (answer .entry)))) r (now (answer .entry)) (now (answer .exit)) ⌝ }
+{
+    if key.len() != BLOCK {
+        return Ending::WrongSize;
+    }
+    if block.len() != BLOCK {
+        return Ending::WrongSize;
+    }
+    if answer.len() != BLOCK {
+        return Ending::WrongSize;
+    }
+    let done = decrypt(sixteen(key), sixteen(block));
+    fill(answer, &done);
+    Ending::Done
+}
+
+// The sixteen bytes of a slice.
+fn sixteen(s: &[u8]) -> [u8; 16]
+    requires { ⌜ length (now s) ≡ 16 ⌝ }
+    ensures { λ r. ⌜ r ≡ now (s .entry) ⌝ }
+{
+    let mut bytes = [0u8; 16];
+    fill(&mut bytes, s);
+    bytes
+}
+
+// Fills the answer with as many bytes.
+fn fill(answer: &mut [u8], bytes: &[u8])
+    requires { ⌜ length (now bytes) ≡ length (now answer) ⌝ }
+    ensures { λ _. ⌜ now (answer .exit) ≡ now (bytes .entry) ⌝ }
+{
+    let mut i = 0;
+    while i < bytes.len() {
+        answer[i] = bytes[i];
+        i += 1;
+    }
+}
+
+// SHA-256 of two parts, one after the other.
+pub fn hash_pair(first: &[u8], second: &[u8]) -> [u8; 32]
+    requires { ⌜ (length (now first) ≤ 65535) × (length (now second) ≤ 65535) ⌝ }
+    ensures { λ r. ⌜ r ≡ SHA256 (now (first .entry) ++ now (second .entry)) ⌝ }
+{
+    hash::digest(first, second, b"", b"")
+}
+
+// HMAC of a head, a tail and a last part, one after the other; none of them is copied.
+pub fn mac(key: &[u8], head: &[u8], tail: &[u8], last: &[u8]) -> [u8; 32]
+    requires { ⌜ (length (now key) ≤ 65535) × ((length (now head) ≤ 65535) × ((length (now tail) ≤ 65535) × (length (now last) ≤ 65535))) ⌝ }
+    ensures { λ r. ⌜ r ≡ HMAC (now (key .entry)) (now (head .entry) ++ (now (tail .entry) ++ now (last .entry))) ⌝ }
+{
+    hash::hmac(key, head, tail, last)
+}
+
+// AES-128 of one block.
+pub fn encrypt(key: [u8; 16], block: [u8; 16]) -> [u8; 16]
+    ensures { λ r. ⌜ r ≡ AES128 key block ⌝ }
+{
+    cipher::encrypt(key, block)
+}
+
+// Its inverse.
+pub fn decrypt(key: [u8; 16], block: [u8; 16]) -> [u8; 16]
+    ensures { λ r. ⌜ r ≡ InvAES128 key block ⌝ }
+{
+    cipher::decrypt(key, block)
 }

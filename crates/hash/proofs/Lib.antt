@@ -1,0 +1,6 @@
+pub mod Words
+pub mod Turns
+pub mod Padded
+pub mod Hashed
+pub mod Keys
+pub mod Laws

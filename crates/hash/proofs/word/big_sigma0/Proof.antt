@@ -1,0 +1,12 @@
+-- `hash::word::big_sigma0` is Σ0, by computation. Assumes nothing.
+use mathlib.Core.Path.{refl}
+use Rattle.hash.specs.Sha256.{Σ0}
+use Rattle.hash.proofs.word.big_sigma0.Statement.{statement}
+use Rattle.hash.proofs.word.big_sigma0.Tie as tie
+
+returns : tie.Need-returns
+unfolding Σ0
+returns c = refl
+
+pub big-sigma0-spec : {M : Type 1} → statement M
+big-sigma0-spec = tie.close (tie.spec returns)

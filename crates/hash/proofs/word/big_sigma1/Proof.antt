@@ -1,0 +1,12 @@
+-- `hash::word::big_sigma1` is Σ1, by computation. Assumes nothing.
+use mathlib.Core.Path.{refl}
+use Rattle.hash.specs.Sha256.{Σ1}
+use Rattle.hash.proofs.word.big_sigma1.Statement.{statement}
+use Rattle.hash.proofs.word.big_sigma1.Tie as tie
+
+returns : tie.Need-returns
+unfolding Σ1
+returns c = refl
+
+pub big-sigma1-spec : {M : Type 1} → statement M
+big-sigma1-spec = tie.close (tie.spec returns)

@@ -1,0 +1,12 @@
+-- `hash::word::ch` is Ch, by computation. Assumes nothing.
+use mathlib.Core.Path.{refl}
+use Rattle.hash.specs.Sha256.{Ch}
+use Rattle.hash.proofs.word.ch.Statement.{statement}
+use Rattle.hash.proofs.word.ch.Tie as tie
+
+returns : tie.Need-returns
+unfolding Ch
+returns c = refl
+
+pub ch-spec : {M : Type 1} → statement M
+ch-spec = tie.close (tie.spec returns)

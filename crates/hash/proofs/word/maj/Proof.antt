@@ -1,0 +1,12 @@
+-- `hash::word::maj` is Maj, by computation. Assumes nothing.
+use mathlib.Core.Path.{refl}
+use Rattle.hash.specs.Sha256.{Maj}
+use Rattle.hash.proofs.word.maj.Statement.{statement}
+use Rattle.hash.proofs.word.maj.Tie as tie
+
+returns : tie.Need-returns
+unfolding Maj
+returns c = refl
+
+pub maj-spec : {M : Type 1} → statement M
+maj-spec = tie.close (tie.spec returns)

@@ -1,0 +1,12 @@
+-- `hash::word::small_sigma0` is σ0, by computation. Assumes nothing.
+use mathlib.Core.Path.{refl}
+use Rattle.hash.specs.Sha256.{σ0}
+use Rattle.hash.proofs.word.small_sigma0.Statement.{statement}
+use Rattle.hash.proofs.word.small_sigma0.Tie as tie
+
+returns : tie.Need-returns
+unfolding σ0
+returns c = refl
+
+pub small-sigma0-spec : {M : Type 1} → statement M
+small-sigma0-spec = tie.close (tie.spec returns)

@@ -1,0 +1,93 @@
+-- Laws of `sameBytes` and `allZero`: the tests hold exactly of equal lists and of lists of zeros, and how a loop that goes from the
+-- front decides them. Assumes nothing.
+use Prim.Native.Nat.{ℕ, zero, suc, _+_, _≤_, _<_}
+use mathlib.Core.Path.{_≡_, refl, sym, ap, _∙_}
+use mathlib.Core.Bool.{true, false, _&&_}
+use mathlib.Core.List.{List, [], _∷_}
+use native.Mathlib.Numerals.{add-one}
+use lib.Dec.{eqb}
+use lib.ListN.{length, getD, drop, replicate, drop-of-length-le}
+use lib.Seq.{drop-cons}
+use borrow.Author.Tests.{eqb-true, eq-eqb, ne-eqb}
+use Rattle.laws.specs.Bytes.{sameBytes, allZero}
+use Rattle.laws.proofs.Flags.{and-left, and-right, both, fails, agree, clash}
+
+pub same-refl : (a : List ℕ) → sameBytes a a ≡ true
+unfolding sameBytes
+same-refl [] = refl
+same-refl (x ∷ xs) = both (eq-eqb x x refl) (same-refl xs)
+
+pub same-equal : (a b : List ℕ) → sameBytes a b ≡ true → a ≡ b
+unfolding sameBytes
+same-equal [] [] h = refl
+same-equal [] (y ∷ ys) h = cc
+same-equal (x ∷ xs) [] h = cc
+same-equal (x ∷ xs) (y ∷ ys) h =
+    let here : x ≡ y = eqb-true x y (and-left (eqb x y) (sameBytes xs ys) h) in
+    let rest : xs ≡ ys = same-equal xs ys (and-right (eqb x y) (sameBytes xs ys) h) in
+    cc
+
+pub equal-same : (a b : List ℕ) → a ≡ b → sameBytes a b ≡ true
+equal-same a b e = rw e (same-refl b)
+
+pub same-differ : (a b : List ℕ) → sameBytes a b ≡ false → a ≡ b → ⊥
+same-differ a b h e = clash (equal-same a b e) h
+
+pub differ-same : (a b : List ℕ) → (a ≡ b → ⊥) → sameBytes a b ≡ false
+differ-same a b h = fails (sameBytes a b) (λ e. h (same-equal a b e))
+
+pub same-sym : (a b : List ℕ) → sameBytes a b ≡ sameBytes b a
+same-sym a b =
+    agree (sameBytes a b) (sameBytes b a)
+    (λ e. equal-same b a (sym (same-equal a b e)))
+    (λ e. equal-same a b (sym (same-equal b a e)))
+
+-- Lists of other lengths differ
+pub lengths-differ : (a b : List ℕ) → (length a ≡ length b → ⊥) → sameBytes a b ≡ false
+lengths-differ a b h = differ-same a b (λ e. h (ap length e))
+
+-- A loop from the front: a place where the bytes are equal leaves the rest to decide, one where they differ decides, and so does the end
+module _ (a b : List ℕ) (i : ℕ) where
+  same-from : i < length a → i < length b
+      → sameBytes (drop i a) (drop i b) ≡ (eqb (getD a i 0) (getD b i 0) && sameBytes (drop (i + 1) a) (drop (i + 1) b))
+  unfolding sameBytes
+  same-from h k = rw (add-one i, drop-cons a i 0 h, drop-cons b i 0 k)
+
+  pub same-next : i < length a → i < length b → getD a i 0 ≡ getD b i 0
+      → sameBytes (drop i a) (drop i b) ≡ sameBytes (drop (i + 1) a) (drop (i + 1) b)
+  same-next h k e = same-from h k ∙ rw (eq-eqb (getD a i 0) (getD b i 0) e)
+
+  pub same-stop : i < length a → i < length b → (getD a i 0 ≡ getD b i 0 → ⊥) → sameBytes (drop i a) (drop i b) ≡ false
+  same-stop h k d = same-from h k ∙ rw (ne-eqb (getD a i 0) (getD b i 0) d)
+
+  pub same-end : length a ≤ i → length b ≤ i → sameBytes (drop i a) (drop i b) ≡ true
+  unfolding sameBytes
+  same-end h k = rw (drop-of-length-le a h, drop-of-length-le b k)
+
+pub zeros-replicate : (l : List ℕ) → allZero l ≡ true → l ≡ replicate (length l) 0
+unfolding allZero
+zeros-replicate [] h = refl
+zeros-replicate (x ∷ xs) h =
+    let here : x ≡ 0 = eqb-true x 0 (and-left (eqb x 0) (allZero xs) h) in
+    let rest : xs ≡ replicate (length xs) 0 = zeros-replicate xs (and-right (eqb x 0) (allZero xs) h) in
+    cc
+
+pub replicate-zeros : (n : ℕ) → allZero (replicate n 0) ≡ true
+unfolding allZero
+replicate-zeros zero = refl
+replicate-zeros (suc n) = replicate-zeros n
+
+module _ (s : List ℕ) (i : ℕ) where
+  zeros-from : i < length s → allZero (drop i s) ≡ (eqb (getD s i 0) 0 && allZero (drop (i + 1) s))
+  unfolding allZero
+  zeros-from h = rw (add-one i, drop-cons s i 0 h)
+
+  pub zeros-next : i < length s → getD s i 0 ≡ 0 → allZero (drop i s) ≡ allZero (drop (i + 1) s)
+  zeros-next h e = zeros-from h ∙ rw (eq-eqb (getD s i 0) 0 e)
+
+  pub zeros-stop : i < length s → (getD s i 0 ≡ 0 → ⊥) → allZero (drop i s) ≡ false
+  zeros-stop h d = zeros-from h ∙ rw (ne-eqb (getD s i 0) 0 d)
+
+  pub zeros-end : length s ≤ i → allZero (drop i s) ≡ true
+  unfolding allZero
+  zeros-end h = rw (drop-of-length-le s h)

@@ -1,0 +1,9 @@
+// Published vectors, run through the public calls of the primitives. What is printed is held to the publishers' values in `stdout`.
+mod cipher;
+mod hash;
+mod print;
+
+fn main() {
+    hash::run();
+    cipher::run();
+}

@@ -1,0 +1,22 @@
+// Printing bytes.
+use libc::STDOUT_FILENO;
+
+// Two lower-case digits a byte.
+pub fn hex(bytes: &[u8]) {
+    let mut i = 0;
+    while i < bytes.len() {
+        io::print_hex(STDOUT_FILENO, bytes[i] as u64, 2);
+        i += 1;
+    }
+}
+
+// The first sixteen bytes, where there are as many.
+pub fn first_half(bytes: &[u8]) {
+    if 16 <= bytes.len() {
+        hex(&bytes[..16]);
+    }
+}
+
+pub fn text(bytes: &[u8]) {
+    io::write_all(STDOUT_FILENO, bytes);
+}
