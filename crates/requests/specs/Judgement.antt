@@ -1,16 +1,16 @@
--- The judgement of a write with a live nonce: accepted, with the unit after it and the answer, or refused by number. And the
--- choices by which the nine requests are judged. Assumes nothing.
+-- The judgement of a request: accepted, with the unit after it and the answer, or refused by number. And the choices by which the nine
+-- requests are judged, on the unit with its nonce spent. Assumes nothing.
 use Prim.Native.Nat.{ℕ, suc}
-use mathlib.Core.Bool.{Bool, true, false, cond, _&&_}
+use mathlib.Core.Bool.{Bool, cond}
 use mathlib.Core.List.{List, [], _∷_}
 use lib.ListN.{getD}
 use Rattle.laws.specs.Bytes.{sameBytes}
+use Rattle.wire.specs.Signing.{requestTag, keyProof, signed}
+use Rattle.wire.specs.Shape.{Request}
 use Rattle.unit.specs.declared.TagUnit.{TagUnit}
 use Rattle.unit.specs.declared.Owner.{Owner}
 use Rattle.unit.specs.WellFormed.{heldKeys}
 use Rattle.requests.specs.declared.Found.{Found}
-use Rattle.requests.specs.Signing.{requestTag}
-use Rattle.requests.specs.Shape.{idOf, sizeOf, tagOf, additionalOf}
 
 pub data Judgement : Type 0 where
   accepts : TagUnit → List ℕ → Judgement
@@ -30,25 +30,38 @@ noConsent = rejects 0x82
 abbrev pub unless : Bool → Judgement → Judgement → Judgement
 unless ok refusal next = cond ok next refusal
 
--- whether the write's tag is the one that this key makes with the unit's nonce
-unfoldable pub tagged : List ℕ → TagUnit → List ℕ → Bool
-tagged key u w = sameBytes (requestTag key (u .nonce .bytes) (idOf w) (sizeOf w) (additionalOf w)) (tagOf w)
+-- the nonce that a request is judged with, and that signs its answer
+abbrev pub lastNonce : TagUnit → List ℕ
+lastNonce u = u .nonce .bytes
+
+-- whether the request's tag is the one that this key makes with this nonce
+unfoldable pub tagged : List ℕ → List ℕ → Request → Bool
+tagged key nonce q = sameBytes (requestTag key nonce (q .id) (q .size) (q .additional)) (q .tag)
+
+-- whether bytes prove the identity key that is held
+abbrev pub proves : TagUnit → List ℕ → Bool
+proves u proof = sameBytes (keyProof (u .identity .bytes) (lastNonce u)) proof
+
+-- "HMAC(key of the request, .. ID": the answer to a request, with the key that it was judged with
+abbrev pub answered : List ℕ → TagUnit → Request → List ℕ → List ℕ
+answered key u q «data» = signed key (lastNonce u) (q .id) «data»
 
 -- "the first held key whose tag matches, in order of arrival"
 unfoldable pub firstFrom : (List ℕ → Bool) → ℕ → List (List ℕ) → Found
 firstFrom p i [] = Found.Nowhere
 firstFrom p i (k ∷ ks) = cond (p k) (Found.At i) (firstFrom p (suc i) ks)
 
-unfoldable pub firstTagged : TagUnit → List ℕ → Found
-firstTagged u w = firstFrom (λ k. tagged k u w) 0 (heldKeys (u .accounts))
+unfoldable pub firstTagged : TagUnit → Request → Found
+firstTagged u q = firstFrom (λ k. tagged k (lastNonce u) q) 0 (heldKeys (u .accounts))
 
--- the bytes of the account key at a place
+-- the bytes of the account key at a place below the count
 abbrev pub keyAt : TagUnit → ℕ → List ℕ
 keyAt u p = getD (heldKeys (u .accounts)) p []
 
 -- the owner's place, if there is an owner
-abbrev pub ownerPlace : TagUnit → Found
-ownerPlace u = elim (u .owner) [ Owner.Nobody ↦ Found.Nowhere | Owner.Place p ↦ Found.At p ]
+abbrev pub ownerPlace : Owner → Found
+ownerPlace Owner.Nobody = Found.Nowhere
+ownerPlace (Owner.Place p) = Found.At p
 
 -- judge with the key at a place; "with no owner", or with no key that matches, 0x80
 abbrev pub withKey : Found → (ℕ → Judgement) → Judgement

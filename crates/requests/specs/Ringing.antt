@@ -1,10 +1,13 @@
--- The requests 0x05 and 0x06: ring, stop, and read what rings. Each is judged on the unit with its nonce spent. Assumes nothing.
-use Prim.Native.Nat.{ℕ, _*_, _+_}
-use mathlib.Core.Bool.{Bool, true, false, cond, not, _&&_, _||_}
-use mathlib.Core.List.{List, [], _∷_, _++_}
-use lib.Dec.{eqb, leb, ltb}
+-- The requests 0x05 and 0x06: ring, stop, and read what rings. Each is judged on the unit with its nonce spent, and only with an
+-- identity key (`keyThere`). Assumes nothing.
+use Prim.Native.Nat.{ℕ}
+use mathlib.Core.Bool.{Bool, false, cond, not, _&&_, _||_}
+use mathlib.Core.List.{List, _∷_}
+use lib.Dec.{eqb, leb}
 use lib.ListN.{getD, take, drop}
 use Rattle.laws.specs.Bytes.{bigEndian, number}
+use Rattle.wire.specs.Signing.{ringKey, ringNotice, stopNotice, started, byRequest}
+use Rattle.wire.specs.Shape.{Request}
 use Rattle.unit.specs.declared.TagUnit.{TagUnit}
 use Rattle.unit.specs.declared.Settings.{Settings}
 use Rattle.unit.specs.declared.Sound.{Sound}
@@ -12,9 +15,7 @@ use Rattle.unit.specs.declared.Protection.{Protection}
 use Rattle.unit.specs.Numbers.{ringable, highestVolume, longestRing}
 use Rattle.unit.specs.WellFormed.{inside}
 use Rattle.unit.specs.Change.{withSound, silenced}
-use Rattle.requests.specs.Signing.{signed, ringKey, ringNotice, stopNotice, started, byRequest}
-use Rattle.requests.specs.Shape.{additionalOf}
-use Rattle.requests.specs.Judgement.{Judgement, accepts, notAuthenticated, invalidValue, unless, tagged}
+use Rattle.requests.specs.Judgement.{Judgement, accepts, notAuthenticated, invalidValue, unless, lastNonce, tagged, answered}
 
 -- "For 0x05 with protection and skip on, any tag passes"
 abbrev pub skips : Protection → Bool
@@ -32,15 +33,18 @@ abbrev pub askedVolume : List ℕ → ℕ
 askedVolume a = getD a 3 0
 
 -- "Mask 0xFF means that whole mask"
+abbrev pub wholeMask : ℕ
+wholeMask = 0xFF
+
 abbrev pub ringMask : Settings → List ℕ → ℕ
-ringMask s a = cond (eqb (askedMask a) 0xFF) (ringable (s .components)) (askedMask a)
+ringMask s a = cond (eqb (askedMask a) wholeMask) (ringable (s .components)) (askedMask a)
 
 -- "0x81 if, after that, the mask has a bit outside it, if 0xFF meets a unit with none, if volume exceeds 3, or if mask isn't 0 and
 -- timeout isn't 1 to 6,000"; so "A stop ignores timeout"
 unfoldable pub ringLegal : Settings → List ℕ → Bool
 ringLegal s a =
     inside (ringMask s a) (s .components)
-    && (not (eqb (askedMask a) 0xFF && eqb (ringable (s .components)) 0)
+    && (not (eqb (askedMask a) wholeMask && eqb (ringable (s .components)) 0)
     && (leb (askedVolume a) highestVolume
     && (eqb (ringMask s a) 0 || (leb 1 (askedTimeout a) && leb (askedTimeout a) longestRing))))
 
@@ -48,26 +52,27 @@ ringLegal s a =
 abbrev pub heldVolume : Settings → List ℕ → ℕ
 heldVolume s a = cond (eqb (s .selectable) 0) 0 (askedVolume a)
 
--- "A ring replaces the old one with no stop notice"; its nonce is that of the write, and so is a stop's
-unfoldable pub rung : TagUnit → List ℕ → Judgement
-rung u a =
-    cond (eqb (ringMask (u .settings) a) 0)
-    (accepts (silenced u) (stopNotice (u .identity .bytes) (u .nonce .bytes) byRequest))
-    (accepts
-    (withSound (Sound.Ringing (ringMask (u .settings) a) (heldVolume (u .settings) a) (askedTimeout a)) (u .nonce .bytes) u)
-    (ringNotice (u .identity .bytes) (u .nonce .bytes) started (ringMask (u .settings) a) (askedTimeout a)))
+-- "The answer to 0x05 is a ring notice"; "a stop by write uses its own" nonce. "A ring replaces the old one with no stop notice", and
+-- keeps the nonce of its write beside it
+unfoldable pub rung : TagUnit → ℕ → ℕ → ℕ → Judgement
+rung u mask volume left =
+    cond (eqb mask 0)
+    (accepts (silenced u) (stopNotice (u .identity .bytes) (lastNonce u) byRequest))
+    (accepts (withSound (Sound.Ringing mask volume left) (lastNonce u) u)
+    (ringNotice (u .identity .bytes) (lastNonce u) started mask left))
 
-unfoldable pub ring : TagUnit → List ℕ → Judgement
-ring u w =
-    unless (u .identity .held && (skips (u .protection) || tagged (ringKey (u .identity .bytes)) u w)) notAuthenticated
-    (unless (ringLegal (u .settings) (additionalOf w)) invalidValue (rung u (additionalOf w)))
+unfoldable pub ring : TagUnit → Request → Judgement
+ring u q =
+    unless (skips (u .protection) || tagged (ringKey (u .identity .bytes)) (lastNonce u) q) notAuthenticated
+    (unless (ringLegal (u .settings) (q .additional)) invalidValue
+    (rung u (ringMask (u .settings) (q .additional)) (heldVolume (u .settings) (q .additional)) (askedTimeout (q .additional))))
 
 -- 0x06: "mask and tenths left; zeros when silent"
 abbrev pub soundState : Sound → List ℕ
 soundState Sound.Silent = 0 ∷ bigEndian 2 0
 soundState (Sound.Ringing mask volume left) = mask ∷ bigEndian 2 left
 
-unfoldable pub readSound : TagUnit → List ℕ → Judgement
-readSound u w =
-    unless (u .identity .held && tagged (ringKey (u .identity .bytes)) u w) notAuthenticated
-    (accepts u (signed (ringKey (u .identity .bytes)) (u .nonce .bytes) 0x06 (soundState (u .sound))))
+unfoldable pub readSound : TagUnit → Request → Judgement
+readSound u q =
+    unless (tagged (ringKey (u .identity .bytes)) (lastNonce u) q) notAuthenticated
+    (accepts u (answered (ringKey (u .identity .bytes)) u q (soundState (u .sound))))

@@ -20,18 +20,22 @@ flagsBytes Flags.LeftOut = []
 flagsBytes (Flags.Shown b) = b ∷ []
 
 unfoldable pub rendered : List ℕ → Bool → Flags → List ℕ
-rendered id protected flags =
-    (0x02 ∷ 0x01 ∷ 0x06 ∷ lengthByte flags ∷ 0x16 ∷ 0xAA ∷ 0xFE ∷ cond protected 0x41 0x40 ∷ id) ++ flagsBytes flags
+rendered id on flags =
+    (0x02 ∷ 0x01 ∷ 0x06 ∷ lengthByte flags ∷ 0x16 ∷ 0xAA ∷ 0xFE ∷ cond on 0x41 0x40 ∷ id) ++ flagsBytes flags
 
 abbrev pub protected : Protection → Bool
 protected Protection.Off = false
 protected (Protection.On skip) = true
 
 -- "battery times 2 plus protection"
-abbrev pub openFlags : ℕ → Bool → ℕ
-openFlags battery on = battery * 2 + cond on 1 0
+abbrev pub flagsBeforeXor : ℕ → Bool → ℕ
+flagsBeforeXor battery on = battery * 2 + cond on 1 0
+
+-- "the last byte of SHA256(r)"
+abbrev pub flagsMask : List ℕ → ℕ
+flagsMask r = getD (SHA256 r) 31 0
 
 -- "XOR the last byte of SHA256(r); left out, exactly, when battery and protection are both 0"
 unfoldable pub flagsFor : ℕ → Bool → List ℕ → Flags
 flagsFor battery on r =
-    cond (eqb battery 0 && not on) Flags.LeftOut (Flags.Shown (bitXor (openFlags battery on) (getD (SHA256 r) 31 0)))
+    cond (eqb battery 0 && not on) Flags.LeftOut (Flags.Shown (bitXor (flagsBeforeXor battery on) (flagsMask r)))

@@ -1,3 +1,5 @@
 pub mod Time
 pub mod Frame
 pub mod Calls
+pub mod Passes
+pub mod Later

@@ -1,6 +1,6 @@
 -- "Buttons and time": one tenth, as a rule, and any number of tenths as that rule again and again. Assumes nothing.
 use Prim.Native.Nat.{ℕ, zero, suc, _+_, _-_, _%_, _^_}
-use mathlib.Core.Bool.{Bool, true, false, cond}
+use mathlib.Core.Bool.{Bool, false, cond}
 use mathlib.Core.List.{List, []}
 use lib.Dec.{eqb, leb}
 use Rattle.laws.specs.Answer.{gives}
@@ -9,7 +9,7 @@ use Rattle.unit.specs.declared.Clock.{Clock}
 use Rattle.unit.specs.declared.Sound.{Sound}
 use Rattle.unit.specs.Change.{withClock, withSound, withConsent, silenced}
 use Rattle.unit.specs.Outcome.{Outcome, giving}
-use Rattle.requests.specs.Signing.{stopNotice, timedOut}
+use Rattle.wire.specs.Signing.{stopNotice, timedOut}
 
 -- "clock on by one": seconds as 32 bits, and a tenth 0 to 9; "after the last second it returns to 0 on purpose"
 unfoldable pub clockOn : Clock → Clock
@@ -34,7 +34,7 @@ ringOn u = cond (endsNext (u .sound)) (silenced u) (withSound (soundOn (u .sound
 unfoldable pub oneTenth : TagUnit → TagUnit
 oneTenth u = withClock (clockOn (u .clock)) (withConsent (u .consent - 1) (ringOn u))
 
--- the notice of that tenth, where a ring ends in it
+-- the notice of that tenth, where a ring ends in it, with "the nonce of the accepted ring"
 unfoldable pub timeoutNotice : TagUnit → List ℕ
 timeoutNotice u = stopNotice (u .identity .bytes) (u .«ring_nonce») timedOut
 

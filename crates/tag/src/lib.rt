@@ -1,7 +1,191 @@
-// The calls of the tag.
+// The calls of the tag. A unit goes in by value and comes back with the call's end. Any bytes and any record may be handed in: each call
+// ends with a result or with one refusal, in the order of its comment. A write refused with 0x80, 0x81 or 0x82 spends the nonce; any
+// other refusal leaves the unit as it was; no refusal writes a lent byte.
+ghost use mathlib.Core.Path.{_≡_};
+ghost use lib.ListN.{length};
+ghost use Rattle.unit.specs.declared.Reply.{Reply};
+ghost use Rattle.unit.specs.declared.Refusal.{Refusal};
+ghost use Rattle.unit.specs.Outcome.{Answers, Settles};
+ghost use Rattle.tag.specs.Calls.{noUnit, newUnit, read as readOf, write as writeOf, button as buttonOf, elapsed as elapsedOf, setPairing, setBattery, addKey, lendIdentifier, frame as frameOf};
+ghost use Rattle.tag.specs.Passes.{Passes};
+use unit::Refusal;
+use unit::Reply;
+use unit::Settings;
+use unit::Step;
+use unit::TagUnit;
+use unit::change;
+use unit::end;
+use unit::legal;
+
+mod accounts;
+mod frame;
+mod identifier;
+mod nonce;
+mod sound;
+mod time;
+
+// The fewest answer bytes that a call with an answer takes.
+pub const ANSWER_ROOM: usize = 42;
 
 // The hashed flags byte of a frame, where there is one.
 pub enum Flags {
     LeftOut,
     Shown(u8),
+}
+
+// A step of time: the unit, the end, and the tenth, counted from the call's start, at which a ring ended, or 0.
+pub struct Passed {
+    pub unit: TagUnit,
+    pub reply: Reply,
+    pub ended: u32,
+}
+
+// The end of a new unit that is refused: a record that is not well formed.
+fn no_unit() -> Step
+    ensures { λ r. ⌜ (r .unit ≡ noUnit) × (r .reply ≡ Reply.Refused Refusal.OutOfRange) ⌝ }
+{
+    let s = Settings {
+        power: 0,
+        components: 0,
+        selectable: 0,
+    };
+    let mut none = change::fresh(s);
+    none.battery = 255;
+    Step {
+        unit: none,
+        reply: Reply::Refused(Refusal::OutOfRange),
+    }
+}
+
+// A new unit, fresh, with its settings. Refusals: 1 for settings out of range; the record given back is then not well formed.
+pub fn new_unit(power: i32, components: u32, selectable: u32) -> Step
+    ensures { λ r. ⌜ Settles (newUnit power components selectable) (r .unit) (r .reply) ⌝ }
+{
+    if 3 < components {
+        return no_unit();
+    }
+    if 1 < selectable {
+        return no_unit();
+    }
+    if legal::power_legal(power) {
+        let s = Settings {
+            power,
+            components: components as u8,
+            selectable: selectable as u8,
+        };
+        return end::accept(change::fresh(s), 0);
+    }
+    no_unit()
+}
+
+// Read: issues the lent nonce, and answers with 0x01 and the nonce. Refusals: 6, 2, 3.
+pub fn read(u: TagUnit, lent: &[u8], answer: &mut [u8]) -> Step
+    ensures { λ r. ⌜ Answers (readOf (now (lent .entry)) (length (now (answer .entry))) u) (r .unit) (r .reply) (now (answer .entry)) (now (answer .exit)) ⌝ }
+{
+    if answer.len() < ANSWER_ROOM {
+        return end::refuse(u, Refusal::NoRoom);
+    }
+    if legal::well_formed(u) {
+        return nonce::issued(u, lent, answer);
+    }
+    end::refuse(u, Refusal::NotWellFormed)
+}
+
+// Write: a request of the phone's. Refusals: 6, 2, and then, with the nonce spent, 0x81 for its shape, 0x80, 0x81 for its values, 0x82.
+pub fn write(u: TagUnit, w: &[u8], answer: &mut [u8]) -> Step
+    ensures { λ r. ⌜ Answers (writeOf (now (w .entry)) (length (now (answer .entry))) u) (r .unit) (r .reply) (now (answer .entry)) (now (answer .exit)) ⌝ }
+{
+    if answer.len() < ANSWER_ROOM {
+        return end::refuse(u, Refusal::NoRoom);
+    }
+    if legal::well_formed(u) {
+        return requests::handle::write(u, w, answer);
+    }
+    end::refuse(u, Refusal::NotWellFormed)
+}
+
+// Button: stops a ring, with a notice; while silent gives consent. Refusals: 6, 2.
+pub fn button(u: TagUnit, answer: &mut [u8]) -> Step
+    ensures { λ r. ⌜ Answers (buttonOf (length (now (answer .entry))) u) (r .unit) (r .reply) (now (answer .entry)) (now (answer .exit)) ⌝ }
+{
+    if answer.len() < ANSWER_ROOM {
+        return end::refuse(u, Refusal::NoRoom);
+    }
+    if legal::well_formed(u) {
+        return sound::pressed(u, answer);
+    }
+    end::refuse(u, Refusal::NotWellFormed)
+}
+
+// Time: any number of tenths. A ring that ends gives its notice and the tenth at which it ended. Refusals: 6, 2.
+pub fn elapsed(u: TagUnit, tenths: u32, answer: &mut [u8]) -> Passed
+    ensures { λ r. ⌜ Passes (elapsedOf tenths (length (now (answer .entry))) u) (r .unit) (r .reply) (r .ended) (now (answer .entry)) (now (answer .exit)) ⌝ }
+{
+    if answer.len() < ANSWER_ROOM {
+        return time::stopped(u, Refusal::NoRoom);
+    }
+    if legal::well_formed(u) {
+        return time::passed(u, tenths, answer);
+    }
+    time::stopped(u, Refusal::NotWellFormed)
+}
+
+// Pairing mode on or off. Refusal: 2.
+pub fn pairing(u: TagUnit, on: bool) -> Step
+    ensures { λ r. ⌜ Settles (setPairing on u) (r .unit) (r .reply) ⌝ }
+{
+    if legal::well_formed(u) {
+        let mut after = u;
+        after.pairing = on;
+        return end::accept(after, 0);
+    }
+    end::refuse(u, Refusal::NotWellFormed)
+}
+
+// The battery level, 0 to 3. Refusals: 2, 1.
+pub fn battery(u: TagUnit, level: u32) -> Step
+    ensures { λ r. ⌜ Settles (setBattery level u) (r .unit) (r .reply) ⌝ }
+{
+    if legal::well_formed(u) {
+        if level <= 3 {
+            let mut after = u;
+            after.battery = level as u8;
+            return end::accept(after, 0);
+        }
+        return end::refuse(u, Refusal::OutOfRange);
+    }
+    end::refuse(u, Refusal::NotWellFormed)
+}
+
+// Adds an account key; one already held changes nothing. Refusals: 2, 4.
+pub fn account_key(u: TagUnit, key: &[u8]) -> Step
+    ensures { λ r. ⌜ Settles (addKey (now (key .entry)) u) (r .unit) (r .reply) ⌝ }
+{
+    if legal::well_formed(u) {
+        return accounts::added(u, key);
+    }
+    end::refuse(u, Refusal::NotWellFormed)
+}
+
+// Lends the identifier for the current window, with its r. Refusals: 2, 1, 5.
+pub fn lend_identifier(u: TagUnit, r: &[u8], id: &[u8]) -> Step
+    ensures { λ s. ⌜ Settles (lendIdentifier (now (r .entry)) (now (id .entry)) u) (s .unit) (s .reply) ⌝ }
+{
+    if legal::well_formed(u) {
+        return identifier::lent(u, r, id);
+    }
+    end::refuse(u, Refusal::NotWellFormed)
+}
+
+// The advertised frame, 28 or 29 bytes. Refusals: 6, 2, 5.
+pub fn advertise(u: TagUnit, answer: &mut [u8]) -> Step
+    ensures { λ r. ⌜ Answers (frameOf (length (now (answer .entry))) u) (r .unit) (r .reply) (now (answer .entry)) (now (answer .exit)) ⌝ }
+{
+    if answer.len() < ANSWER_ROOM {
+        return end::refuse(u, Refusal::NoRoom);
+    }
+    if legal::well_formed(u) {
+        return frame::shown(u, answer);
+    }
+    end::refuse(u, Refusal::NotWellFormed)
 }

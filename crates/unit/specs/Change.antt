@@ -3,6 +3,7 @@ use Prim.Native.Nat.{ℕ}
 use mathlib.Core.Bool.{Bool, true, false}
 use mathlib.Core.List.{List}
 use lib.ListN.{replicate}
+use Rattle.unit.specs.Numbers.{nonceBytes, mostKeys, accountKeyBytes, identityBytes, identifierBytes}
 use Rattle.unit.specs.declared.TagUnit.{TagUnit}
 use Rattle.unit.specs.declared.Settings.{Settings}
 use Rattle.unit.specs.declared.Clock.{Clock}
@@ -17,19 +18,23 @@ use Rattle.unit.specs.declared.Identifier.{Identifier}
 
 -- What is absent has zeros in its room
 abbrev pub noNonce : Nonce
-noNonce = record { held = false; live = false; bytes = replicate 8 0 }
+noNonce = record { held = false; live = false; bytes = replicate nonceBytes 0 }
 
 abbrev pub noAccounts : Accounts
-noAccounts = record { count = 0; keys = replicate 5 (record { bytes = replicate 16 0 }) }
+noAccounts = record { count = 0; keys = replicate mostKeys (record { bytes = replicate accountKeyBytes 0 }) }
 
 abbrev pub noIdentity : Identity
-noIdentity = record { held = false; bytes = replicate 32 0 }
+noIdentity = record { held = false; bytes = replicate identityBytes 0 }
 
 abbrev pub noIdentifier : Identifier
-noIdentifier = record { held = false; r = replicate 20 0; id = replicate 20 0; window = 0 }
+noIdentifier = record { held = false; r = replicate identifierBytes 0; id = replicate identifierBytes 0; window = 0 }
+
+-- the nonce beside a silent sound
+abbrev pub noRingNonce : List ℕ
+noRingNonce = replicate nonceBytes 0
 
 -- Fresh: no keys, nonce, sound, protection, consent, pairing or identifier; battery 0; the clock starts at 0
-unfoldable pub fresh : Settings → TagUnit
+abbrev pub fresh : Settings → TagUnit
 fresh s =
     record {
       settings = s;
@@ -39,7 +44,7 @@ fresh s =
       owner = Owner.Nobody;
       identity = noIdentity;
       sound = Sound.Silent;
-      «ring_nonce» = replicate 8 0;
+      «ring_nonce» = noRingNonce;
       protection = Protection.Off;
       consent = 0;
       pairing = false;
@@ -47,208 +52,74 @@ fresh s =
       identifier = noIdentifier;
     }
 
-unfoldable pub withClock : Clock → TagUnit → TagUnit
-withClock c u =
+-- a unit of its thirteen parts
+abbrev pub unitOf : Settings → Clock → Nonce → Accounts → Owner → Identity → Sound → List ℕ → Protection → ℕ → Bool → ℕ → Identifier → TagUnit
+unitOf s c n a o k v m p t g b i =
     record {
-      settings = u .settings;
+      settings = s;
       clock = c;
-      nonce = u .nonce;
-      accounts = u .accounts;
-      owner = u .owner;
-      identity = u .identity;
-      sound = u .sound;
-      «ring_nonce» = u .«ring_nonce»;
-      protection = u .protection;
-      consent = u .consent;
-      pairing = u .pairing;
-      battery = u .battery;
-      identifier = u .identifier;
-    }
-
-unfoldable pub withNonce : Nonce → TagUnit → TagUnit
-withNonce n u =
-    record {
-      settings = u .settings;
-      clock = u .clock;
       nonce = n;
-      accounts = u .accounts;
-      owner = u .owner;
-      identity = u .identity;
-      sound = u .sound;
-      «ring_nonce» = u .«ring_nonce»;
-      protection = u .protection;
-      consent = u .consent;
-      pairing = u .pairing;
-      battery = u .battery;
-      identifier = u .identifier;
-    }
-
-unfoldable pub withAccounts : Accounts → TagUnit → TagUnit
-withAccounts a u =
-    record {
-      settings = u .settings;
-      clock = u .clock;
-      nonce = u .nonce;
       accounts = a;
-      owner = u .owner;
-      identity = u .identity;
-      sound = u .sound;
-      «ring_nonce» = u .«ring_nonce»;
-      protection = u .protection;
-      consent = u .consent;
-      pairing = u .pairing;
-      battery = u .battery;
-      identifier = u .identifier;
-    }
-
-unfoldable pub withOwner : Owner → TagUnit → TagUnit
-withOwner o u =
-    record {
-      settings = u .settings;
-      clock = u .clock;
-      nonce = u .nonce;
-      accounts = u .accounts;
       owner = o;
-      identity = u .identity;
-      sound = u .sound;
-      «ring_nonce» = u .«ring_nonce»;
-      protection = u .protection;
-      consent = u .consent;
-      pairing = u .pairing;
-      battery = u .battery;
-      identifier = u .identifier;
-    }
-
-unfoldable pub withIdentity : Identity → TagUnit → TagUnit
-withIdentity k u =
-    record {
-      settings = u .settings;
-      clock = u .clock;
-      nonce = u .nonce;
-      accounts = u .accounts;
-      owner = u .owner;
       identity = k;
-      sound = u .sound;
-      «ring_nonce» = u .«ring_nonce»;
-      protection = u .protection;
-      consent = u .consent;
-      pairing = u .pairing;
-      battery = u .battery;
-      identifier = u .identifier;
-    }
-
-unfoldable pub withProtection : Protection → TagUnit → TagUnit
-withProtection p u =
-    record {
-      settings = u .settings;
-      clock = u .clock;
-      nonce = u .nonce;
-      accounts = u .accounts;
-      owner = u .owner;
-      identity = u .identity;
-      sound = u .sound;
-      «ring_nonce» = u .«ring_nonce»;
+      sound = v;
+      «ring_nonce» = m;
       protection = p;
-      consent = u .consent;
-      pairing = u .pairing;
-      battery = u .battery;
-      identifier = u .identifier;
-    }
-
-unfoldable pub withConsent : ℕ → TagUnit → TagUnit
-withConsent n u =
-    record {
-      settings = u .settings;
-      clock = u .clock;
-      nonce = u .nonce;
-      accounts = u .accounts;
-      owner = u .owner;
-      identity = u .identity;
-      sound = u .sound;
-      «ring_nonce» = u .«ring_nonce»;
-      protection = u .protection;
-      consent = n;
-      pairing = u .pairing;
-      battery = u .battery;
-      identifier = u .identifier;
-    }
-
-unfoldable pub withPairing : Bool → TagUnit → TagUnit
-withPairing on u =
-    record {
-      settings = u .settings;
-      clock = u .clock;
-      nonce = u .nonce;
-      accounts = u .accounts;
-      owner = u .owner;
-      identity = u .identity;
-      sound = u .sound;
-      «ring_nonce» = u .«ring_nonce»;
-      protection = u .protection;
-      consent = u .consent;
-      pairing = on;
-      battery = u .battery;
-      identifier = u .identifier;
-    }
-
-unfoldable pub withBattery : ℕ → TagUnit → TagUnit
-withBattery level u =
-    record {
-      settings = u .settings;
-      clock = u .clock;
-      nonce = u .nonce;
-      accounts = u .accounts;
-      owner = u .owner;
-      identity = u .identity;
-      sound = u .sound;
-      «ring_nonce» = u .«ring_nonce»;
-      protection = u .protection;
-      consent = u .consent;
-      pairing = u .pairing;
-      battery = level;
-      identifier = u .identifier;
-    }
-
-unfoldable pub withIdentifier : Identifier → TagUnit → TagUnit
-withIdentifier i u =
-    record {
-      settings = u .settings;
-      clock = u .clock;
-      nonce = u .nonce;
-      accounts = u .accounts;
-      owner = u .owner;
-      identity = u .identity;
-      sound = u .sound;
-      «ring_nonce» = u .«ring_nonce»;
-      protection = u .protection;
-      consent = u .consent;
-      pairing = u .pairing;
-      battery = u .battery;
+      consent = t;
+      pairing = g;
+      battery = b;
       identifier = i;
     }
 
+-- the unit with one part changed
+abbrev pub withClock : Clock → TagUnit → TagUnit
+withClock c u =
+    unitOf (u .settings) c (u .nonce) (u .accounts) (u .owner) (u .identity) (u .sound) (u .«ring_nonce») (u .protection) (u .consent) (u .pairing) (u .battery) (u .identifier)
+
+abbrev pub withNonce : Nonce → TagUnit → TagUnit
+withNonce n u =
+    unitOf (u .settings) (u .clock) n (u .accounts) (u .owner) (u .identity) (u .sound) (u .«ring_nonce») (u .protection) (u .consent) (u .pairing) (u .battery) (u .identifier)
+
+abbrev pub withAccounts : Accounts → TagUnit → TagUnit
+withAccounts a u =
+    unitOf (u .settings) (u .clock) (u .nonce) a (u .owner) (u .identity) (u .sound) (u .«ring_nonce») (u .protection) (u .consent) (u .pairing) (u .battery) (u .identifier)
+
+abbrev pub withOwner : Owner → TagUnit → TagUnit
+withOwner o u =
+    unitOf (u .settings) (u .clock) (u .nonce) (u .accounts) o (u .identity) (u .sound) (u .«ring_nonce») (u .protection) (u .consent) (u .pairing) (u .battery) (u .identifier)
+
+abbrev pub withIdentity : Identity → TagUnit → TagUnit
+withIdentity k u =
+    unitOf (u .settings) (u .clock) (u .nonce) (u .accounts) (u .owner) k (u .sound) (u .«ring_nonce») (u .protection) (u .consent) (u .pairing) (u .battery) (u .identifier)
+
+abbrev pub withProtection : Protection → TagUnit → TagUnit
+withProtection p u =
+    unitOf (u .settings) (u .clock) (u .nonce) (u .accounts) (u .owner) (u .identity) (u .sound) (u .«ring_nonce») p (u .consent) (u .pairing) (u .battery) (u .identifier)
+
+abbrev pub withConsent : ℕ → TagUnit → TagUnit
+withConsent t u =
+    unitOf (u .settings) (u .clock) (u .nonce) (u .accounts) (u .owner) (u .identity) (u .sound) (u .«ring_nonce») (u .protection) t (u .pairing) (u .battery) (u .identifier)
+
+abbrev pub withPairing : Bool → TagUnit → TagUnit
+withPairing on u =
+    unitOf (u .settings) (u .clock) (u .nonce) (u .accounts) (u .owner) (u .identity) (u .sound) (u .«ring_nonce») (u .protection) (u .consent) on (u .battery) (u .identifier)
+
+abbrev pub withBattery : ℕ → TagUnit → TagUnit
+withBattery level u =
+    unitOf (u .settings) (u .clock) (u .nonce) (u .accounts) (u .owner) (u .identity) (u .sound) (u .«ring_nonce») (u .protection) (u .consent) (u .pairing) level (u .identifier)
+
+abbrev pub withIdentifier : Identifier → TagUnit → TagUnit
+withIdentifier i u =
+    unitOf (u .settings) (u .clock) (u .nonce) (u .accounts) (u .owner) (u .identity) (u .sound) (u .«ring_nonce») (u .protection) (u .consent) (u .pairing) (u .battery) i
+
 -- a sound, with the nonce of the accepted ring beside it
-unfoldable pub withSound : Sound → List ℕ → TagUnit → TagUnit
-withSound s n u =
-    record {
-      settings = u .settings;
-      clock = u .clock;
-      nonce = u .nonce;
-      accounts = u .accounts;
-      owner = u .owner;
-      identity = u .identity;
-      sound = s;
-      «ring_nonce» = n;
-      protection = u .protection;
-      consent = u .consent;
-      pairing = u .pairing;
-      battery = u .battery;
-      identifier = u .identifier;
-    }
+abbrev pub withSound : Sound → List ℕ → TagUnit → TagUnit
+withSound v m u =
+    unitOf (u .settings) (u .clock) (u .nonce) (u .accounts) (u .owner) (u .identity) v m (u .protection) (u .consent) (u .pairing) (u .battery) (u .identifier)
 
 -- Every way to silence goes through here: no sound, and no nonce beside it
 abbrev pub silenced : TagUnit → TagUnit
-silenced u = withSound Sound.Silent (replicate 8 0) u
+silenced u = withSound Sound.Silent noRingNonce u
 
 -- "Spent" is the paper's word for a nonce that can authenticate no further write: its bytes stay, and it is not live
 abbrev pub spent : TagUnit → TagUnit

@@ -3,3 +3,4 @@ pub mod Refusals
 pub mod Change
 pub mod WellFormed
 pub mod Outcome
+pub mod Standing

@@ -1,5 +1,7 @@
 -- The paper's numbers, once each. Assumes nothing.
 use Prim.Native.Nat.{ℕ, _-_, _*_, _/_, _^_}
+use mathlib.Core.Path.{_≡_}
+use lib.Count.{ones}
 
 -- "Up to 5 account keys of 16 bytes"
 abbrev pub mostKeys : ℕ
@@ -7,6 +9,10 @@ mostKeys = 5
 
 abbrev pub accountKeyBytes : ℕ
 accountKeyBytes = 16
+
+-- "a 32-byte identity key"
+abbrev pub identityBytes : ℕ
+identityBytes = 32
 
 abbrev pub nonceBytes : ℕ
 nonceBytes = 8
@@ -48,3 +54,8 @@ window seconds = seconds / windowLength * windowLength
 -- "The ringable mask, 0x00, 0x01, 0x03 or 0x07, has as many ones as the component number"
 abbrev pub ringable : ℕ → ℕ
 ringable components = 2 ^ components - 1
+
+-- what is promised of the mask: that it is the ringable mask, and its count of ones
+pub record RingableMask (components mask : ℕ) : Type 0 where
+  pub maskIs : mask ≡ ringable components
+  pub onesAre : ones mask ≡ components

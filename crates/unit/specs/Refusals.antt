@@ -7,6 +7,8 @@ use Rattle.unit.specs.declared.Refusal.the-variants.{NotAuthenticated, I
 use Rattle.unit.specs.declared.Reply.{Reply}
 use Rattle.unit.specs.declared.Reply.the-variants.{Done, Refused}
 
+-- The number of each case of the code's enum. The definitions of the calls say the paper's number themselves, at each place where it is
+-- given; every promise holds the two against each other
 abbrev pub number : Refusal → ℕ
 number NotAuthenticated = 0x80
 number InvalidValue = 0x81

@@ -92,6 +92,8 @@ identifierLegal i keyed =
     (i .held && (keyed && eqb (i .window % windowLength) 0))
     || (not (i .held) && (allZero (i .r) && (allZero (i .id) && eqb (i .window) 0)))
 
+-- All lines. Not among them, on purpose: that a ringing unit has a last nonce, the ring's nonce against the last, the identifier's window
+-- against the clock, and consent only with a key
 unfoldable pub wellFormed : TagUnit → Bool
 wellFormed u =
     settingsLegal (u .settings)

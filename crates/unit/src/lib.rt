@@ -1,6 +1,12 @@
 // What a tag unit holds: the unit record of the paper's "What a unit holds", by value. Any values at all may stand in a record;
 // `well_formed` judges them.
 
+pub mod bytes;
+pub mod change;
+pub mod end;
+pub mod legal;
+pub mod standing;
+
 // Calibrated power in dBm at 0 m, the number of components that can ring, and whether the volume is selectable (0 or 1).
 pub struct Settings {
     pub power: i32,

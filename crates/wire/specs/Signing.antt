@@ -5,13 +5,19 @@ use lib.ListN.{length, take}
 use Rattle.laws.specs.Bytes.{bigEndian}
 use Rattle.primitives.specs.Standards.{SHA256, HMAC}
 
--- the protocol's major version, 0x01
+-- the protocol's major version, 0x01; and of a digest the first 8 bytes that stand for it, as a tag, a key or a proof
 abbrev pub version : ℕ
 version = 0x01
 
+abbrev pub tagBytes : ℕ
+tagBytes = 8
+
+abbrev pub firstBytes : List ℕ → List ℕ
+firstBytes digest = take tagBytes digest
+
 -- "Recovery, ring and protection keys are the first 8 bytes of SHA256(identity key, then 0x01, 0x02, 0x03 respectively)"
 unfoldable pub derivedKey : ℕ → List ℕ → List ℕ
-derivedKey n identity = take 8 (SHA256 (identity ++ (n ∷ [])))
+derivedKey n identity = firstBytes (SHA256 (identity ++ (n ∷ [])))
 
 abbrev pub recoveryKey : List ℕ → List ℕ
 recoveryKey identity = derivedKey 0x01 identity
@@ -24,20 +30,24 @@ protectionKey identity = derivedKey 0x03 identity
 
 -- "A key proof is the first 8 bytes of SHA256(identity key, nonce)"
 unfoldable pub keyProof : List ℕ → List ℕ → List ℕ
-keyProof identity nonce = take 8 (SHA256 (identity ++ nonce))
+keyProof identity nonce = firstBytes (SHA256 (identity ++ nonce))
 
 -- "Request tag: first 8 bytes of HMAC(key, 0x01, nonce, ID, length, additional)"
 unfoldable pub requestTag : List ℕ → List ℕ → ℕ → ℕ → List ℕ → List ℕ
-requestTag key nonce id size additional = take 8 (HMAC key (version ∷ nonce ++ (id ∷ size ∷ additional)))
+requestTag key nonce id size additional = firstBytes (HMAC key (version ∷ nonce ++ (id ∷ size ∷ additional)))
 
 -- "tag is the first 8 bytes of HMAC(key of the request, 0x01, nonce, ID, length, data, 0x01)"
 unfoldable pub answerTag : List ℕ → List ℕ → ℕ → List ℕ → List ℕ
 answerTag key nonce id «data» =
-    take 8 (HMAC key (version ∷ nonce ++ (id ∷ (8 + length «data») ∷ «data» ++ (0x01 ∷ []))))
+    firstBytes (HMAC key (version ∷ nonce ++ (id ∷ (tagBytes + length «data») ∷ «data» ++ (0x01 ∷ []))))
 
 -- "Answers: ID, length (8 + data), tag, data"
 unfoldable pub signed : List ℕ → List ℕ → ℕ → List ℕ → List ℕ
-signed key nonce id «data» = id ∷ (8 + length «data») ∷ answerTag key nonce id «data» ++ «data»
+signed key nonce id «data» = id ∷ (tagBytes + length «data») ∷ answerTag key nonce id «data» ++ «data»
+
+-- the ID of a ring and of its notices
+abbrev pub ringId : ℕ
+ringId = 0x05
 
 -- "A ring notice has ID 0x05, the ring key, data: status (0 started, 2 timeout, 3 button, 4 request), mask, tenths left; zeros once
 -- stopped"
@@ -55,7 +65,7 @@ byRequest = 4
 
 unfoldable pub ringNotice : List ℕ → List ℕ → ℕ → ℕ → ℕ → List ℕ
 ringNotice identity nonce status mask left =
-    signed (ringKey identity) nonce 0x05 (status ∷ mask ∷ bigEndian 2 left)
+    signed (ringKey identity) nonce ringId (status ∷ mask ∷ bigEndian 2 left)
 
 abbrev pub stopNotice : List ℕ → List ℕ → ℕ → List ℕ
 stopNotice identity nonce status = ringNotice identity nonce status 0 0

@@ -1,0 +1,127 @@
+-- A write as a whole: the handler that its ID chooses, and its judgement, from what the code tests. Assumes nothing.
+use Prim.Native.Nat.{ℕ, _-_, _≤_}
+use mathlib.Core.Path.{_≡_, sym, ap, _∙_}
+use mathlib.Core.Bool.{Bool, true, false, _||_}
+use mathlib.Core.List.{List}
+use native.Mathlib.Omega.{arith}
+use lib.Dec.{ltb}
+use lib.ListN.{length, take, drop, length-drop}
+use lib.Seq.{take-all}
+use borrow.Author.Tests.{ne-eqb}
+use Rattle.wire.specs.Shape.{Request, request, parsed, sizeLegal, shapeLegal}
+use Rattle.wire.specs.declared.Head.{Head}
+use Rattle.unit.specs.Change.{spent}
+use Rattle.unit.specs.Refusals.{number}
+use Rattle.unit.specs.Outcome.{Answers}
+use Rattle.unit.specs.WellFormed.{wellFormed}
+use Rattle.unit.specs.declared.TagUnit.{TagUnit}
+use Rattle.unit.specs.declared.Step.{Step}
+use Rattle.unit.specs.declared.Reply.{Reply}
+use Rattle.unit.specs.declared.Refusal.{Refusal}
+use Rattle.unit.proofs.Kept.{spent-kept}
+use Rattle.requests.specs.Judgement.{rejects, notAuthenticated, invalidValue}
+use Rattle.requests.specs.Provisioning.{readParameters, readState, setKey, clearKey, recoverKey}
+use Rattle.requests.specs.Ringing.{ring, readSound}
+use Rattle.requests.specs.Protecting.{protect, unprotect}
+use Rattle.requests.specs.Judges.{Ready, Judges}
+use Rattle.requests.specs.Write.{byId, keyThere, judged, written}
+use Rattle.requests.proofs.Settled.{refusal, judged-as}
+use Rattle.requests.proofs.Shaped.{sizes-legal, length-is, head-inside}
+
+module _ (u : TagUnit) (q : Request) where
+  pub chosen-parameters : q .id ≡ 0x00 → byId u q ≡ readParameters u q
+  unfolding byId
+  chosen-parameters e = rw e
+
+  pub chosen-state : q .id ≡ 0x01 → byId u q ≡ readState u q
+  unfolding byId
+  chosen-state e = rw e
+
+  pub chosen-set : q .id ≡ 0x02 → byId u q ≡ setKey u q
+  unfolding byId
+  chosen-set e = rw e
+
+  pub chosen-clear : q .id ≡ 0x03 → byId u q ≡ clearKey u q
+  unfolding byId
+  chosen-clear e = rw e
+
+  pub chosen-recover : q .id ≡ 0x04 → byId u q ≡ recoverKey u q
+  unfolding byId
+  chosen-recover e = rw e
+
+  pub chosen-ring : q .id ≡ 0x05 → byId u q ≡ ring u q
+  unfolding byId
+  chosen-ring e = rw e
+
+  pub chosen-sound : q .id ≡ 0x06 → byId u q ≡ readSound u q
+  unfolding byId
+  chosen-sound e = rw e
+
+  pub chosen-protect : q .id ≡ 0x07 → byId u q ≡ protect u q
+  unfolding byId
+  chosen-protect e = rw e
+
+  pub chosen-unprotect : q .id ≡ 0x08 → byId u q ≡ unprotect u q
+  unfolding byId
+  chosen-unprotect e = rw e
+
+  pub chosen-none : (q .id ≡ 0 → ⊥) → (q .id ≡ 1 → ⊥) → (q .id ≡ 2 → ⊥) → (q .id ≡ 3 → ⊥) → (q .id ≡ 4 → ⊥) → (q .id ≡ 5 → ⊥) → (q .id ≡ 6 → ⊥)
+      → (q .id ≡ 7 → ⊥) → (q .id ≡ 8 → ⊥) → byId u q ≡ invalidValue
+  unfolding byId
+  chosen-none e0 e1 e2 e3 e4 e5 e6 e7 e8 =
+      let i = q .id in
+      rw (ne-eqb i 0 e0, ne-eqb i 1 e1, ne-eqb i 2 e2, ne-eqb i 3 e3, ne-eqb i 4 e4, ne-eqb i 5 e5, ne-eqb i 6 e6, ne-eqb i 7 e7, ne-eqb i 8 e8)
+
+module _ (u : TagUnit) (w : List ℕ) where
+  pub judged-shapeless : shapeLegal w ≡ false → judged u w ≡ invalidValue
+  unfolding judged
+  judged-shapeless unmet = rw unmet
+
+  module _ (shaped : shapeLegal w ≡ true) where
+    pub judged-dead : u .nonce .live ≡ false → judged u w ≡ notAuthenticated
+    unfolding judged
+    judged-dead unmet = rw (shaped, unmet)
+
+    module _ (live : u .nonce .live ≡ true) where
+      pub judged-keyless : keyThere u (parsed w) ≡ false → judged u w ≡ notAuthenticated
+      unfolding judged
+      judged-keyless unmet = rw (shaped, live, unmet)
+
+      pub judged-by-id : keyThere u (parsed w) ≡ true → judged u w ≡ byId (spent u) (parsed w)
+      unfolding judged
+      judged-by-id met = rw (shaped, live, met)
+
+  -- The whole write, on the unit with its nonce spent
+  module _ {after : TagUnit} (changed : after ≡ spent u) where
+    pub write-refused : (r : Step) (x : Refusal) (lent : List ℕ) → (r .unit ≡ after) × (r .reply ≡ Reply.Refused x)
+        → judged u w ≡ rejects (number x) → Answers (written u w) (r .unit) (r .reply) lent lent
+    unfolding written
+    write-refused r x lent ends is = refusal (spent u) (judged u w) r x lent (ends .0 ∙ changed, ends .1) is
+
+    module _ {h : Head} (head : request h (drop 10 w) ≡ parsed w) where
+      pub key-there : {there : Bool} → there ≡ ltb (h .id) 3 || u .identity .held → keyThere u (parsed w) ≡ there
+      key-there e = sym (e ∙ ap (λ (q : Request). ltb (q .id) 3 || u .identity .held) head)
+
+      tail-is : take (length w - 10) (drop 10 w) ≡ drop 10 w
+      tail-is = take-all (length w - 10) (drop 10 w) (omega (arith, length-drop 10 w))
+
+      pub write-ready : {lent : List ℕ} → wellFormed u ≡ true → 42 ≤ length lent → shapeLegal w ≡ true
+          → Ready after (h .size) (take (length w - 10) (drop 10 w)) lent × (sizeLegal (h .id) (h .size) ≡ true)
+      unfolding parsed
+      write-ready formed room shaped =
+          let size = ap (λ (q : Request). q .size) head in
+          let id = ap (λ (q : Request). q .id) head in (
+            record {
+              formed = rw changed (spent-kept u formed);
+              sized = rw tail-is (omega (arith, size, length-drop 10 w, length-is w shaped, head-inside w shaped));
+              room = room;
+            },
+            rw (id, size) (sizes-legal w shaped),
+          )
+
+      pub write-judged : (r : Step) {before last : List ℕ} → judged u w ≡ byId (spent u) (parsed w)
+          → Judges after (byId after (request h (take (length w - 10) (drop 10 w)))) r before last
+          → Answers (written u w) (r .unit) (r .reply) before last
+      unfolding written
+      write-judged r is p =
+          judged-as (spent u) (judged u w) r (is ∙ ap (λ (q : Request). byId (spent u) q) (sym head)) (rw (changed, tail-is) at p)

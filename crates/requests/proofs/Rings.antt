@@ -1,0 +1,108 @@
+-- The judgements of 0x05 and 0x06, from what their handlers test; and a ring's values. Assumes nothing.
+use Prim.Native.Nat.{ℕ, _+_, _*_, _≤_, _<_}
+use mathlib.Core.Path.{_≡_, sym, ap, _∙_}
+use mathlib.Core.Bool.{Bool, true, false, _&&_, _||_}
+use mathlib.Core.List.{List}
+use native.Mathlib.Nat.{zero-add}
+use native.Mathlib.Omega.{arith}
+use lib.Dec.{eqb, leb}
+use lib.ListN.{length, getD}
+use lib.Seq.{drop-cons}
+use borrow.Author.Tests.{eq-eqb, ne-eqb, le-leb, lt-leb}
+use Rattle.laws.specs.Bytes.{number, numberAfter}
+use Rattle.laws.proofs.Flags.{and-fails-left}
+use Rattle.wire.specs.Signing.{ringKey, ringNotice, stopNotice, started, byRequest}
+use Rattle.wire.specs.Shape.{Request}
+use Rattle.unit.specs.Change.{withSound, silenced}
+use Rattle.unit.specs.Numbers.{ringable, highestVolume, longestRing}
+use Rattle.unit.specs.WellFormed.{inside}
+use Rattle.unit.specs.declared.TagUnit.{TagUnit}
+use Rattle.unit.specs.declared.Settings.{Settings}
+use Rattle.unit.specs.declared.Sound.{Sound}
+use Rattle.requests.specs.Judgement.{accepts, notAuthenticated, invalidValue, lastNonce, tagged, answered}
+use Rattle.requests.specs.Ringing.{skips, askedMask, askedTimeout, askedVolume, wholeMask, ringMask, ringLegal, heldVolume, rung, ring, soundState, readSound}
+
+-- the number of bytes 1 and 2
+pub timeout-is : (a : List ℕ) → length a ≡ 4 → getD a 1 0 * 256 + getD a 2 0 ≡ askedTimeout a
+unfolding number numberAfter
+timeout-is a h =
+    rw (drop-cons a 1 0 (omega arith), drop-cons a 2 0 (omega arith))
+    (ap (λ (n : ℕ). n * 256 + getD a 2 0) (sym (zero-add (getD a 1 0))))
+
+-- The values of a ring, test by test
+module _ (s : Settings) (a : List ℕ) {mask : ℕ} (is : mask ≡ ringMask s a) where
+  pub legal-outside : inside mask (s .components) ≡ false → ringLegal s a ≡ false
+  unfolding ringLegal
+  legal-outside unmet = and-fails-left _ (rw is at unmet)
+
+  module _ (within : inside mask (s .components) ≡ true) where
+    pub legal-nothing : eqb (askedMask a) wholeMask && eqb (ringable (s .components)) 0 ≡ true → ringLegal s a ≡ false
+    unfolding ringLegal
+    legal-nothing none = rw (rw is at within, none)
+
+    module _ (some : eqb (askedMask a) wholeMask && eqb (ringable (s .components)) 0 ≡ false) where
+      -- with a mask that is legal the volume and the timeout decide
+      decided : {rest : Bool} → leb (askedVolume a) highestVolume && (eqb (ringMask s a) 0 || (leb 1 (askedTimeout a) && leb (askedTimeout a) longestRing)) ≡ rest
+          → ringLegal s a ≡ rest
+      unfolding ringLegal
+      decided e = rw (rw is at within, some) e
+
+      pub legal-volume : highestVolume < askedVolume a → ringLegal s a ≡ false
+      legal-volume more = decided (and-fails-left _ (lt-leb _ _ more))
+
+      module _ (quiet : askedVolume a ≤ highestVolume) where
+        pub legal-stop : mask ≡ 0 → ringLegal s a ≡ true
+        legal-stop none = decided (rw (le-leb (askedVolume a) highestVolume quiet, eq-eqb (ringMask s a) 0 (sym is ∙ none)))
+
+        module _ (sounds : mask ≡ 0 → ⊥) {timeout : ℕ} (asked : timeout ≡ askedTimeout a) where
+          timed : ringLegal s a ≡ leb 1 timeout && leb timeout longestRing
+          timed =
+              decided
+              (rw (
+                le-leb (askedVolume a) highestVolume quiet,
+                ne-eqb (ringMask s a) 0 (λ e. sounds (is ∙ e)),
+                ← asked,
+              ))
+
+          pub legal-none : timeout < 1 → ringLegal s a ≡ false
+          legal-none less = timed ∙ and-fails-left _ (lt-leb 1 timeout less)
+
+          pub legal-some : 1 ≤ timeout → ringLegal s a ≡ leb timeout longestRing
+          legal-some least = timed ∙ rw (le-leb 1 timeout least)
+
+module _ (u : TagUnit) where
+  module _ {mask : ℕ} (volume left : ℕ) {next : TagUnit} where
+    pub rung-stop : mask ≡ 0 → next ≡ silenced u
+        → rung u mask volume left ≡ accepts next (stopNotice (u .identity .bytes) (lastNonce u) byRequest)
+    unfolding rung
+    rung-stop none changed = rw (changed, eq-eqb mask 0 none)
+
+    pub rung-ring : (mask ≡ 0 → ⊥) → next ≡ withSound (Sound.Ringing mask volume left) (lastNonce u) u
+        → rung u mask volume left ≡ accepts next (ringNotice (u .identity .bytes) (lastNonce u) started mask left)
+    unfolding rung
+    rung-ring some changed = rw (changed, ne-eqb mask 0 some)
+
+  module _ (q : Request) where
+    pub ring-kept-out : skips (u .protection) || tagged (ringKey (u .identity .bytes)) (lastNonce u) q ≡ false → ring u q ≡ notAuthenticated
+    unfolding ring
+    ring-kept-out unmet = rw unmet
+
+    module _ (met : skips (u .protection) || tagged (ringKey (u .identity .bytes)) (lastNonce u) q ≡ true) where
+      pub ring-values : ringLegal (u .settings) (q .additional) ≡ false → ring u q ≡ invalidValue
+      unfolding ring
+      ring-values unmet = rw (met, unmet)
+
+      pub ring-rung : {mask volume left : ℕ} → ringLegal (u .settings) (q .additional) ≡ true → mask ≡ ringMask (u .settings) (q .additional)
+          → volume ≡ heldVolume (u .settings) (q .additional) → left ≡ askedTimeout (q .additional) → ring u q ≡ rung u mask volume left
+      unfolding ring
+      ring-rung legal m v l = rw (m, v, l, met, legal)
+
+    module _ {key : List ℕ} (derived : key ≡ ringKey (u .identity .bytes)) where
+      pub sound-untagged : tagged key (lastNonce u) q ≡ false → readSound u q ≡ notAuthenticated
+      unfolding readSound
+      sound-untagged unmet = rw (← derived, unmet)
+
+      pub sound-read : {payload : List ℕ} → tagged key (lastNonce u) q ≡ true → payload ≡ soundState (u .sound)
+          → readSound u q ≡ accepts u (answered key u q payload)
+      unfolding readSound
+      sound-read met is = rw (is, ← derived, met)

@@ -1,0 +1,96 @@
+// A write as a whole, on a well-formed unit with room for the answer: shape, live nonce, and the request by its ID.
+ghost use mathlib.Core.Path.{_≡_};
+ghost use mathlib.Core.Bool.{true, _||_};
+ghost use Prim.Native.Nat.{_≤_};
+ghost use lib.Dec.{ltb};
+ghost use lib.ListN.{length, drop};
+ghost use Rattle.unit.specs.WellFormed.{wellFormed};
+ghost use Rattle.unit.specs.Outcome.{Answers};
+ghost use Rattle.wire.specs.Shape.{request, parsed, sizeLegal, shapeLegal};
+ghost use Rattle.requests.specs.Judges.{Ready, Judges};
+ghost use Rattle.requests.specs.Write.{byId, written};
+use crate::protecting;
+use crate::provisioning;
+use crate::ringing;
+use unit::Refusal;
+use unit::Step;
+use unit::TagUnit;
+use unit::change;
+use unit::end;
+use wire::Head;
+use wire::shape;
+
+// Hands the request, with the write's tail as its additional data, to the handler of its ID.
+fn by_id(u: TagUnit, h: Head, additional: &[u8], answer: &mut [u8]) -> Step
+    requires { ⌜ Ready u (h .size) (now additional) (now answer) × (sizeLegal (h .id) (h .size) ≡ true) ⌝ }
+    ensures { λ r. ⌜ Judges u (byId u (request h (now (additional .entry)))) r (now (answer .entry)) (now (answer .exit)) ⌝ }
+{
+    let id = h.id;
+    match id {
+        0x00 => provisioning::read_parameters(u, h, additional, answer),
+        0x01 => provisioning::read_state(u, h, additional, answer),
+        0x02 => provisioning::set_key(u, h, additional, answer),
+        0x03 => provisioning::clear_key(u, h, additional, answer),
+        0x04 => provisioning::recover_key(u, h, additional, answer),
+        0x05 => ringing::ring(u, h, additional, answer),
+        0x06 => ringing::read_sound(u, h, additional, answer),
+        0x07 => protecting::protect(u, h, additional, answer),
+        0x08 => protecting::unprotect(u, h, additional, answer),
+        _ => end::refuse(u, Refusal::InvalidValue),
+    }
+}
+
+// Whether a write has a legal shape.
+fn shape_legal(w: &[u8]) -> bool
+    ensures { λ r. ⌜ r ≡ shapeLegal (now (w .entry)) ⌝ }
+{
+    if w.len() < 2 {
+        return false;
+    }
+    if shape::size_legal(w[0], w[1]) {
+        return w.len() == (w[1] as usize) + 2;
+    }
+    false
+}
+
+// The first ten bytes of a write.
+fn head_of(w: &[u8]) -> Head
+    requires { ⌜ 10 ≤ length (now w) ⌝ }
+    ensures { λ r. ⌜ request r (drop 10 (now (w .entry))) ≡ parsed (now (w .entry)) ⌝ }
+{
+    let tag = [w[2], w[3], w[4], w[5], w[6], w[7], w[8], w[9]];
+    Head {
+        id: w[0],
+        size: w[1],
+        tag,
+    }
+}
+
+// Whether a request finds the identity key that it needs: from 0x03 on there has to be one.
+fn key_there(id: u8, held: bool) -> bool
+    ensures { λ r. ⌜ r ≡ (ltb id 0x03 || held) ⌝ }
+{
+    if id < 0x03 {
+        return true;
+    }
+    held
+}
+
+// The whole write. It spends the live nonce, whatever follows.
+pub fn write(u: TagUnit, w: &[u8], answer: &mut [u8]) -> Step
+    requires { ⌜ (wellFormed u ≡ true) × (42 ≤ length (now answer)) ⌝ }
+    ensures { λ r. ⌜ Answers (written u (now (w .entry))) (r .unit) (r .reply) (now (answer .entry)) (now (answer .exit)) ⌝ }
+{
+    let after = change::spent(u);
+    if !shape_legal(w) {
+        return end::refuse(after, Refusal::InvalidValue);
+    }
+    if !u.nonce.live {
+        return end::refuse(after, Refusal::NotAuthenticated);
+    }
+    let h = head_of(w);
+    if !key_there(h.id, u.identity.held) {
+        return end::refuse(after, Refusal::NotAuthenticated);
+    }
+    by_id(after, h, &w[10..], answer)
+}

@@ -1,0 +1,55 @@
+-- `tag::advertise` meets its contract: too little room is refused, then a unit that is not well formed, and the rest is handed on. Assumes nothing.
+use Rattle.unit.proofs.Lines.{lines}
+use Rattle.tag.specs.Calls.{frame}
+use Rattle.tag.proofs.Guards.{well-formed, answering-no-room, answering-own, answering-refuses, refused-answers}
+use borrow.Author.Needs.{needs}
+use Rattle.tag.proofs.advertise.Statement.{statement}
+use Rattle.tag.proofs.advertise.Tie as tie
+
+refuse-requires : tie.Need-refuse-requires
+refuse-requires c κs = search needs
+
+returns : tie.Need-returns
+unfolding frame
+returns c = rw (answering-no-room _ _ _ (c .before .if1 .taken)) (refused-answers _ (c .refuse .ensures))
+
+well-formed-requires : tie.Need-well-formed-requires
+well-formed-requires c κs = search needs
+
+shown-requires : tie.Need-shown-requires
+shown-requires c κs =
+    let test = c .before in
+    (lines _ (well-formed _ (test .before .well-formed .ensures) (test .if2 .taken)) .battery, test .before .before .if1 .left)
+
+same-length : tie.Need-same-length
+same-length c = search needs
+
+returns-2 : tie.Need-returns-2
+unfolding frame
+returns-2 c =
+    let test = c .before .before .before .before in
+    rw (answering-own _ (test .before .well-formed .ensures) _ _ (test .before .before .if1 .left) (test .if2 .taken))
+    (c .before .before .shown .ensures)
+
+refuse-requires-2 : tie.Need-refuse-requires-2
+refuse-requires-2 c κs = search needs
+
+returns-3 : tie.Need-returns-3
+unfolding frame
+returns-3 c =
+    let test = c .before in
+    rw (answering-refuses _ (test .before .well-formed .ensures) _ _ (test .before .before .if1 .left) (test .if2 .left))
+    (refused-answers _ (c .refuse2 .ensures))
+
+pub advertise-spec : {M : Type 1} → statement M
+advertise-spec =
+    tie.close
+    (tie.spec
+    refuse-requires
+    returns
+    well-formed-requires
+    shown-requires
+    same-length
+    returns-2
+    refuse-requires-2
+    returns-3)

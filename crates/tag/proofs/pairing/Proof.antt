@@ -1,0 +1,27 @@
+-- `tag::pairing` meets its contract: a well-formed unit is changed, another is refused. Assumes nothing.
+use Rattle.tag.specs.Calls.{setPairing}
+use Rattle.tag.proofs.Guards.{formed-own, formed-refuses, refused-settles, done-settles}
+use borrow.Author.Needs.{needs}
+use Rattle.tag.proofs.pairing.Statement.{statement}
+use Rattle.tag.proofs.pairing.Tie as tie
+
+well-formed-requires : tie.Need-well-formed-requires
+well-formed-requires c κs = search needs
+
+accept-requires : tie.Need-accept-requires
+accept-requires c κs = search needs
+
+returns : tie.Need-returns
+unfolding setPairing
+returns c = rw (formed-own _ (c .before .before .well-formed .ensures) _ (c .before .if1 .taken)) (done-settles (c .accept .ensures))
+
+refuse-requires : tie.Need-refuse-requires
+refuse-requires c κs = search needs
+
+returns-2 : tie.Need-returns-2
+unfolding setPairing
+returns-2 c = rw (formed-refuses _ (c .before .before .well-formed .ensures) _ (c .before .if1 .left)) (refused-settles (c .refuse .ensures))
+
+pub pairing-spec : {M : Type 1} → statement M
+pairing-spec =
+    tie.close (tie.spec well-formed-requires accept-requires returns refuse-requires returns-2)

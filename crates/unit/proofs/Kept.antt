@@ -1,0 +1,182 @@
+-- What keeps a unit well formed: the fresh unit is, and each change of specs/Change keeps it so under its own condition.
+-- Each law goes by the lines: those that a change does not touch are the unit's own. Assumes nothing.
+use Prim.Native.Nat.{ℕ, _%_, _≤_, _<_}
+use mathlib.Core.Path.{_≡_, refl}
+use mathlib.Core.Bool.{Bool, true, false, not, _&&_, _||_, false≢true}
+use mathlib.Core.List.{List}
+use mathlib.Core.Logic.{_⊎_, inl, inr}
+use native.Mathlib.Omega.{arith}
+use lib.Dec.{eqb}
+use borrow.Author.Needs.{needs}
+use borrow.Author.Tests.{lt-ltb, eq-eqb}
+use Rattle.laws.specs.Bytes.{allZero}
+use Rattle.laws.proofs.Flags.{and-right, both, or-left, or-right, or-rest, true-or-false}
+use Rattle.laws.proofs.Same.{replicate-zeros}
+use Rattle.unit.specs.Change.{fresh, noIdentifier, withClock, withNonce, withAccounts, withOwner, withIdentity, withProtection, withConsent, withPairing, withBattery, withIdentifier, withSound, silenced, spent}
+use Rattle.unit.specs.Numbers.{windowLength, window}
+use Rattle.unit.specs.WellFormed.{settingsLegal, among, distinct, zeros, heldKeys, ownerLegal, owned, identityLegal, nonceLegal, soundLegal, protectionLegal, identifierLegal, wellFormed}
+use Rattle.unit.specs.declared.TagUnit.{TagUnit}
+use Rattle.unit.specs.declared.Settings.{Settings}
+use Rattle.unit.specs.declared.Clock.{Clock}
+use Rattle.unit.specs.declared.Nonce.{Nonce}
+use Rattle.unit.specs.declared.Owner.{Owner}
+use Rattle.unit.specs.declared.Identity.{Identity}
+use Rattle.unit.specs.declared.Identifier.{Identifier}
+use Rattle.unit.specs.declared.Sound.{Sound}
+use Rattle.unit.specs.declared.Protection.{Protection}
+use Rattle.unit.proofs.Lines.{RingLines, lines, formed, settings-lines, ring-legal}
+use Rattle.unit.proofs.Adding.{added, accounts-added, owner-added}
+
+pub fresh-formed : (s : Settings) → settingsLegal s ≡ true → wellFormed (fresh s) ≡ true
+unfolding heldKeys distinct zeros ownerLegal identityLegal nonceLegal soundLegal identifierLegal allZero
+fresh-formed s h =
+    formed (fresh s)
+    (record {
+      settings = settings-lines s h;
+      tenth = search needs;
+      accounts = record { count = search needs; different = refl; spare = refl };
+      owner = refl;
+      identity = refl;
+      nonce = refl;
+      sound = refl;
+      protection = refl;
+      consent = search needs;
+      battery = search needs;
+      identifier = refl;
+    })
+
+spent-legal : (n : Nonce) → nonceLegal n ≡ true → nonceLegal (record { held = n .held; live = false; bytes = n .bytes }) ≡ true
+unfolding nonceLegal
+spent-legal n h = go (true-or-false (n .held))
+  where
+    go : (n .held ≡ true) ⊎ (n .held ≡ false) → n .held || (true && allZero (n .bytes)) ≡ true
+    go (inl e) = or-left _ e
+    go (inr e) = or-right (n .held) (and-right (not (n .live)) _ (or-rest _ e h))
+
+-- An owner's place and an identity key: any place will do, and none will do without the key
+placed-legal : (place : ℕ) (k : Identity) (o : Owner) → identityLegal k o ≡ true → identityLegal k (Owner.Place place) ≡ true
+unfolding identityLegal
+placed-legal place k o h = go (true-or-false (k .held))
+  where
+    go : (k .held ≡ true) ⊎ (k .held ≡ false) → (k .held && true) || (not (k .held) && allZero (k .bytes)) ≡ true
+    go (inl e) = rw e
+    go (inr e) = rw e (rw e at h)
+
+unowned-legal : (k : Identity) (o : Owner) → k .held ≡ false → identityLegal k o ≡ true → identityLegal k Owner.Nobody ≡ true
+unfolding identityLegal
+unowned-legal k o e h = rw e (rw e at h)
+
+-- What is legal without an identity key is so with one
+sound-keyed : (x : Sound) (nonce : List ℕ) (s : Settings) (keyed : Bool) → soundLegal x nonce s keyed ≡ true → soundLegal x nonce s true ≡ true
+unfolding soundLegal
+sound-keyed Sound.Silent nonce s keyed h = h
+sound-keyed (Sound.Ringing mask volume left) nonce s keyed h = and-right keyed _ h
+
+protection-keyed : (p : Protection) (keyed : Bool) → protectionLegal p keyed ≡ true → protectionLegal p true ≡ true
+protection-keyed Protection.Off keyed h = refl
+protection-keyed (Protection.On skip) keyed h = refl
+
+unkeyed-legal : (i : Identifier) → identifierLegal i false ≡ true → identifierLegal i true ≡ true
+unfolding identifierLegal
+unkeyed-legal i h = go (true-or-false (i .held))
+  where
+    go : (i .held ≡ true) ⊎ (i .held ≡ false)
+        → (i .held && eqb (i .window % windowLength) 0) || (not (i .held) && (allZero (i .r) && (allZero (i .id) && eqb (i .window) 0))) ≡ true
+    go (inl e) = absurd (false≢true (rw e at h))
+    go (inr e) = rw e (rw e at h)
+
+identifier-keyed : (i : Identifier) (keyed : Bool) → identifierLegal i keyed ≡ true → identifierLegal i true ≡ true
+identifier-keyed i true h = h
+identifier-keyed i false h = unkeyed-legal i h
+
+module _ (u : TagUnit) (w : wellFormed u ≡ true) where
+  pub clock-kept : (c : Clock) → c .tenth ≤ 9 → wellFormed (withClock c u) ≡ true
+  clock-kept c h = let l = lines u w in formed (withClock c u) (search needs)
+
+  pub consent-kept : (n : ℕ) → n ≤ 600 → wellFormed (withConsent n u) ≡ true
+  consent-kept n h = let l = lines u w in formed (withConsent n u) (search needs)
+
+  pub battery-kept : (n : ℕ) → n ≤ 3 → wellFormed (withBattery n u) ≡ true
+  battery-kept n h = let l = lines u w in formed (withBattery n u) (search needs)
+
+  pub pairing-kept : (on : Bool) → wellFormed (withPairing on u) ≡ true
+  pairing-kept on = let l = lines u w in formed (withPairing on u) (search needs)
+
+  pub nonce-kept : (n : Nonce) → nonceLegal n ≡ true → wellFormed (withNonce n u) ≡ true
+  nonce-kept n h = let l = lines u w in formed (withNonce n u) (search needs)
+
+  pub issued-kept : (live : Bool) (bytes : List ℕ) → wellFormed (withNonce (record { held = true; live = live; bytes = bytes }) u) ≡ true
+  unfolding nonceLegal
+  issued-kept live bytes = nonce-kept (record { held = true; live = live; bytes = bytes }) refl
+
+  pub spent-kept : wellFormed (spent u) ≡ true
+  spent-kept = nonce-kept (spent u .nonce) (spent-legal (u .nonce) (lines u w .nonce))
+
+  pub accounts-kept : (key : List ℕ) → u .accounts .count < 5 → among key (heldKeys (u .accounts)) ≡ false
+      → wellFormed (withAccounts (added key (u .accounts)) u) ≡ true
+  accounts-kept key few new =
+      let l = lines u w in
+      let accounts = accounts-added key (u .accounts) few new (l .accounts) in
+      let owner = owner-added key (u .accounts) (u .owner) (l .owner) in
+      formed (withAccounts (added key (u .accounts)) u) (search needs)
+
+  pub owner-kept : (place : ℕ) → place < u .accounts .count → wellFormed (withOwner (Owner.Place place) u) ≡ true
+  unfolding ownerLegal
+  owner-kept place h =
+      let l = lines u w in
+      let owner = lt-ltb place (u .accounts .count) h in
+      let identity = placed-legal place (u .identity) (u .owner) (l .identity) in
+      formed (withOwner (Owner.Place place) u) (search needs)
+
+  pub nobody-kept : u .identity .held ≡ false → wellFormed (withOwner Owner.Nobody u) ≡ true
+  unfolding ownerLegal
+  nobody-kept h =
+      let l = lines u w in
+      let identity = unowned-legal (u .identity) (u .owner) h (l .identity) in
+      formed (withOwner Owner.Nobody u) (search needs)
+
+  pub identity-kept : (bytes : List ℕ) → owned (u .owner) ≡ true → wellFormed (withIdentity (record { held = true; bytes = bytes }) u) ≡ true
+  unfolding identityLegal
+  identity-kept bytes h =
+      let l = lines u w in
+      let identity = or-left false h in
+      let sound = sound-keyed (u .sound) (u .«ring_nonce») (u .settings) (u .identity .held) (l .sound) in
+      let protection = protection-keyed (u .protection) (u .identity .held) (l .protection) in
+      let identifier = identifier-keyed (u .identifier) (u .identity .held) (l .identifier) in
+      formed (withIdentity (record { held = true; bytes = bytes }) u) (search needs)
+
+  pub silenced-kept : wellFormed (silenced u) ≡ true
+  unfolding soundLegal
+  silenced-kept =
+      let l = lines u w in
+      let sound = replicate-zeros 8 in
+      formed (silenced u) (search needs)
+
+  pub ring-kept : (mask volume left : ℕ) (nonce : List ℕ) → RingLines mask volume left (u .settings) (u .identity .held)
+      → wellFormed (withSound (Sound.Ringing mask volume left) nonce u) ≡ true
+  ring-kept mask volume left nonce r =
+      let l = lines u w in
+      let sound = ring-legal mask volume left nonce (u .settings) (u .identity .held) r in
+      formed (withSound (Sound.Ringing mask volume left) nonce u) (search needs)
+
+  pub protection-kept : (p : Protection) → protectionLegal p (u .identity .held) ≡ true → wellFormed (withProtection p u) ≡ true
+  protection-kept p h = let l = lines u w in formed (withProtection p u) (search needs)
+
+  pub unlent-kept : wellFormed (withIdentifier noIdentifier u) ≡ true
+  unfolding identifierLegal allZero
+  unlent-kept =
+      let l = lines u w in
+      let identifier : identifierLegal noIdentifier (u .identity .held) ≡ true = refl in
+      formed (withIdentifier noIdentifier u) (search needs)
+
+  pub lent-kept : (r id : List ℕ) (from : ℕ) → u .identity .held ≡ true → from % windowLength ≡ 0
+      → wellFormed (withIdentifier (record { held = true; r = r; id = id; window = from }) u) ≡ true
+  unfolding identifierLegal
+  lent-kept r id from k h =
+      let l = lines u w in
+      let identifier = or-left false (both k (eq-eqb (from % windowLength) 0 h)) in
+      formed (withIdentifier (record { held = true; r = r; id = id; window = from }) u) (search needs)
+
+-- The window of a second has its low 10 bits clear
+pub window-clear : (seconds : ℕ) → window seconds % windowLength ≡ 0
+window-clear seconds = omega arith

@@ -1,0 +1,210 @@
+-- Well-formedness by its lines: `wellFormed u ≡ true` exactly if every line of "What a unit holds" is met, each by a name.
+-- Assumes nothing.
+use Prim.Native.Nat.{ℕ, _%_, _≤_, _<_}
+use mathlib.Core.Path.{_≡_, sym, ap, _∙_}
+use mathlib.Core.List.{List}
+use mathlib.Core.Bool.{Bool, true, false, not, _&&_, _||_}
+use mathlib.Core.Logic.{_⊎_, inl, inr}
+use lib.ListN.{drop}
+use lib.Dec.{leb, eqb}
+use borrow.Author.Tests.{ltb-true, leb-true, le-leb, eqb-true, eqb-false, eq-eqb, ne-eqb, not-true}
+use Rattle.laws.specs.Bytes.{allZero}
+use Rattle.laws.proofs.Flags.{true-or-false, and-left, and-right, both, or-left, or-right, or-rest, or-false}
+use Rattle.unit.specs.WellFormed.{powerLegal, settingsLegal, keyBytes, heldKeys, distinct, zeros, accountsLegal, ownerLegal, owned, identityLegal, nonceLegal, inside, soundLegal, protectionLegal, identifierLegal, wellFormed}
+use Rattle.unit.specs.Numbers.{mostComponents, mostKeys, highestVolume, highestBattery, fullConsent, windowLength}
+use Rattle.unit.specs.declared.TagUnit.{TagUnit}
+use Rattle.unit.specs.declared.Settings.{Settings}
+use Rattle.unit.specs.declared.Accounts.{Accounts}
+use Rattle.unit.specs.declared.Sound.{Sound}
+use Rattle.unit.specs.declared.Owner.{Owner}
+use Rattle.unit.specs.declared.Protection.{Protection}
+
+pub record SettingsLines (s : Settings) : Type 0 where
+  pub power : powerLegal (s .power) ≡ true
+  pub components : s .components ≤ 3
+  pub selectable : s .selectable ≤ 1
+
+pub record AccountsLines (a : Accounts) : Type 0 where
+  pub count : a .count ≤ 5
+  pub different : distinct (heldKeys a) ≡ true
+  pub spare : zeros (drop (a .count) (keyBytes (a .keys))) ≡ true
+
+pub record Lines (u : TagUnit) : Type 0 where
+  pub settings : SettingsLines (u .settings)
+  pub tenth : u .clock .tenth ≤ 9
+  pub accounts : AccountsLines (u .accounts)
+  pub owner : ownerLegal (u .owner) (u .accounts) ≡ true
+  pub identity : identityLegal (u .identity) (u .owner) ≡ true
+  pub nonce : nonceLegal (u .nonce) ≡ true
+  pub sound : soundLegal (u .sound) (u .«ring_nonce») (u .settings) (u .identity .held) ≡ true
+  pub protection : protectionLegal (u .protection) (u .identity .held) ≡ true
+  pub consent : u .consent ≤ 600
+  pub battery : u .battery ≤ 3
+  pub identifier : identifierLegal (u .identifier) (u .identity .held) ≡ true
+
+pub settings-lines : (s : Settings) → settingsLegal s ≡ true → SettingsLines s
+unfolding settingsLegal
+settings-lines s h =
+    let rest = and-right (powerLegal (s .power)) _ h in
+    record {
+      power = and-left _ _ h;
+      components = leb-true _ _ (and-left _ _ rest);
+      selectable = leb-true _ _ (and-right (leb (s .components) mostComponents) _ rest);
+    }
+
+pub settings-legal : (s : Settings) → SettingsLines s → settingsLegal s ≡ true
+unfolding settingsLegal
+settings-legal s l = both (l .power) (both (le-leb _ _ (l .components)) (le-leb _ _ (l .selectable)))
+
+pub accounts-lines : (a : Accounts) → accountsLegal a ≡ true → AccountsLines a
+unfolding accountsLegal
+accounts-lines a h =
+    let rest = and-right (leb (a .count) mostKeys) _ h in
+    record {
+      count = leb-true _ _ (and-left _ _ h);
+      different = and-left _ _ rest;
+      spare = and-right (distinct (heldKeys a)) _ rest;
+    }
+
+pub accounts-legal : (a : Accounts) → AccountsLines a → accountsLegal a ≡ true
+unfolding accountsLegal
+accounts-legal a l = both (le-leb _ _ (l .count)) (both (l .different) (l .spare))
+
+pub lines : (u : TagUnit) → wellFormed u ≡ true → Lines u
+unfolding wellFormed
+lines u h =
+    let from-tenth = and-right (settingsLegal (u .settings)) _ h in
+    let from-accounts = and-right (leb (u .clock .tenth) 9) _ from-tenth in
+    let from-owner = and-right (accountsLegal (u .accounts)) _ from-accounts in
+    let from-identity = and-right (ownerLegal (u .owner) (u .accounts)) _ from-owner in
+    let from-nonce = and-right (identityLegal (u .identity) (u .owner)) _ from-identity in
+    let from-sound = and-right (nonceLegal (u .nonce)) _ from-nonce in
+    let from-protection = and-right (soundLegal (u .sound) (u .«ring_nonce») (u .settings) (u .identity .held)) _ from-sound in
+    let from-consent = and-right (protectionLegal (u .protection) (u .identity .held)) _ from-protection in
+    let from-battery = and-right (leb (u .consent) fullConsent) _ from-consent in
+    record {
+      settings = settings-lines _ (and-left _ _ h);
+      tenth = leb-true _ _ (and-left _ _ from-tenth);
+      accounts = accounts-lines _ (and-left _ _ from-accounts);
+      owner = and-left _ _ from-owner;
+      identity = and-left _ _ from-identity;
+      nonce = and-left _ _ from-nonce;
+      sound = and-left _ _ from-sound;
+      protection = and-left _ _ from-protection;
+      consent = leb-true _ _ (and-left _ _ from-consent);
+      battery = leb-true _ _ (and-left _ _ from-battery);
+      identifier = and-right (leb (u .battery) highestBattery) _ from-battery;
+    }
+
+pub formed : (u : TagUnit) → Lines u → wellFormed u ≡ true
+unfolding wellFormed
+formed u l =
+    both (settings-legal _ (l .settings))
+    (both (le-leb _ _ (l .tenth))
+    (both (accounts-legal _ (l .accounts))
+    (both (l .owner)
+    (both (l .identity)
+    (both (l .nonce)
+    (both (l .sound)
+    (both (l .protection)
+    (both (le-leb _ _ (l .consent))
+    (both (le-leb _ _ (l .battery))
+    (l .identifier))))))))))
+
+-- Volume 0 where it is not selectable, as a test and as a fact
+fixed-test : (selectable volume : ℕ) → (selectable ≡ 0 → volume ≡ 0) → not (eqb selectable 0) || eqb volume 0 ≡ true
+fixed-test selectable volume h = go (true-or-false (eqb selectable 0))
+  where
+    go : (eqb selectable 0 ≡ true) ⊎ (eqb selectable 0 ≡ false) → not (eqb selectable 0) || eqb volume 0 ≡ true
+    go (inl e) = or-right (not (eqb selectable 0)) (eq-eqb volume 0 (h (eqb-true selectable 0 e)))
+    go (inr e) = or-left (eqb volume 0) (ap not e)
+
+fixed-fact : (selectable volume : ℕ) → not (eqb selectable 0) || eqb volume 0 ≡ true → selectable ≡ 0 → volume ≡ 0
+fixed-fact selectable volume h e = eqb-true volume 0 (or-rest (eqb volume 0) (ap not (eq-eqb selectable 0 e)) h)
+
+pub record VolumeLines (selectable volume : ℕ) : Type 0 where
+  pub most : volume ≤ 3
+  pub fixed : selectable ≡ 0 → volume ≡ 0
+
+pub volume-lines : (selectable volume : ℕ) → leb volume highestVolume && (not (eqb selectable 0) || eqb volume 0) ≡ true
+    → VolumeLines selectable volume
+volume-lines selectable volume h =
+    record {
+      most = leb-true _ _ (and-left _ _ h);
+      fixed = fixed-fact selectable volume (and-right (leb volume highestVolume) _ h);
+    }
+
+pub volume-legal : (selectable volume : ℕ) → VolumeLines selectable volume
+    → leb volume highestVolume && (not (eqb selectable 0) || eqb volume 0) ≡ true
+volume-legal selectable volume l = both (le-leb _ _ (l .most)) (fixed-test selectable volume (l .fixed))
+
+-- What is so of a ring
+pub record RingLines (mask volume left : ℕ) (s : Settings) (keyed : Bool) : Type 0 where
+  pub identityHeld : keyed ≡ true
+  pub some : mask ≡ 0 → ⊥
+  pub within : inside mask (s .components) ≡ true
+  pub atVolume : VolumeLines (s .selectable) volume
+  pub least : 1 ≤ left
+  pub most : left ≤ 6000
+
+module _ (mask volume left : ℕ) (nonce : List ℕ) (s : Settings) (keyed : Bool) where
+  pub ring-lines : soundLegal (Sound.Ringing mask volume left) nonce s keyed ≡ true → RingLines mask volume left s keyed
+  unfolding soundLegal
+  ring-lines h =
+      let from-mask = and-right keyed _ h in
+      let masks = and-left _ _ from-mask in
+      let from-volume = and-right (not (eqb mask 0) && inside mask (s .components)) _ from-mask in
+      let from-fixed = and-right (leb volume highestVolume) _ from-volume in
+      let lefts = and-right (not (eqb (s .selectable) 0) || eqb volume 0) _ from-fixed in
+      record {
+        identityHeld = and-left _ _ h;
+        some = eqb-false mask 0 (not-true _ (and-left _ _ masks));
+        within = and-right (not (eqb mask 0)) _ masks;
+        atVolume =
+            record {
+              most = leb-true _ _ (and-left _ _ from-volume);
+              fixed = fixed-fact (s .selectable) volume (and-left _ _ from-fixed);
+            };
+        least = leb-true _ _ (and-left _ _ lefts);
+        most = leb-true _ _ (and-right (leb 1 left) _ lefts);
+      }
+
+  pub ring-legal : RingLines mask volume left s keyed → soundLegal (Sound.Ringing mask volume left) nonce s keyed ≡ true
+  unfolding soundLegal
+  ring-legal l =
+      both (l .identityHeld)
+      (both (both (ap not (ne-eqb mask 0 (l .some))) (l .within))
+      (both (le-leb _ _ (l .atVolume .most))
+      (both (fixed-test (s .selectable) volume (l .atVolume .fixed))
+      (both (le-leb _ _ (l .least)) (le-leb _ _ (l .most))))))
+
+-- What a well-formed unit's owner, sound, protection and identifier say of the rest
+module _ {u : TagUnit} (l : Lines u) where
+  pub owner-held : (place : ℕ) → u .owner ≡ Owner.Place place → place < u .accounts .count
+  unfolding ownerLegal
+  owner-held place e = ltb-true place (u .accounts .count) (rw e at (l .owner))
+
+  pub identity-owned : u .identity .held ≡ true → owned (u .owner) ≡ true
+  unfolding identityLegal
+  identity-owned e = sym (or-false _) ∙ (rw e at (l .identity))
+
+  pub ring-held : {mask volume left : ℕ} → u .sound ≡ Sound.Ringing mask volume left
+      → RingLines mask volume left (u .settings) (u .identity .held)
+  ring-held {mask} {volume} {left} e =
+      ring-lines mask volume left (u .«ring_nonce») (u .settings) (u .identity .held) (rw e at (l .sound))
+
+  pub silent-zeros : u .sound ≡ Sound.Silent → allZero (u .«ring_nonce») ≡ true
+  unfolding soundLegal
+  silent-zeros e = rw e at (l .sound)
+
+  pub protection-held : {skip : Bool} → u .protection ≡ Protection.On skip → u .identity .held ≡ true
+  protection-held e = rw e at (l .protection)
+
+  pub identifier-held : u .identifier .held ≡ true → u .identity .held ≡ true
+  unfolding identifierLegal
+  identifier-held e = and-left _ _ (sym (or-false _) ∙ (rw e at (l .identifier)))
+
+  pub identifier-window : u .identifier .held ≡ true → u .identifier .window % windowLength ≡ 0
+  unfolding identifierLegal
+  identifier-window e =
+      eqb-true _ _ (and-right (u .identity .held) _ (sym (or-false _) ∙ (rw e at (l .identifier))))

@@ -1,0 +1,14 @@
+-- `unit::change::fresh` meets its contract: the record is the definition's, field by field. Assumes nothing.
+use borrow.Author.Needs.{needs}
+use Rattle.unit.proofs.change.fresh.Statement.{statement}
+use Rattle.unit.proofs.change.fresh.Tie as tie
+
+no-identifier-requires : tie.Need-no-identifier-requires
+no-identifier-requires c κs = search needs
+
+returns : tie.Need-returns
+returns c =
+    cc
+
+pub fresh-spec : {M : Type 1} → statement M
+fresh-spec = tie.close (tie.spec no-identifier-requires returns)

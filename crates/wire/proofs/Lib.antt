@@ -1,0 +1,4 @@
+pub mod Laws
+pub mod Tagged
+pub mod Sizes
+pub mod Written

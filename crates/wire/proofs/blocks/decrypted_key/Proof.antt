@@ -1,0 +1,35 @@
+-- `blocks::decrypted_key` meets its contract: the blocks one by one. Assumes nothing.
+use Rattle.wire.specs.KeyBlocks.{decryptedKey}
+use borrow.Author.Needs.{needs}
+use Rattle.wire.proofs.blocks.decrypted_key.Statement.{statement}
+use Rattle.wire.proofs.blocks.decrypted_key.Tie as tie
+
+block-at-requires : tie.Need-block-at-requires
+block-at-requires c κs = search needs
+
+decrypt-requires : tie.Need-decrypt-requires
+decrypt-requires c κs = search needs
+
+block-at-requires-2 : tie.Need-block-at-requires-2
+block-at-requires-2 c κs = search needs
+
+decrypt-requires-2 : tie.Need-decrypt-requires-2
+decrypt-requires-2 c κs = search needs
+
+joined-requires : tie.Need-joined-requires
+joined-requires c κs = search needs
+
+returns : tie.Need-returns
+unfolding decryptedKey
+returns c = cc
+
+pub decrypted-key-spec : {M : Type 1} → statement M
+decrypted-key-spec =
+    tie.close
+    (tie.spec
+    block-at-requires
+    decrypt-requires
+    block-at-requires-2
+    decrypt-requires-2
+    joined-requires
+    returns)

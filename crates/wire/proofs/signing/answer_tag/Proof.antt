@@ -1,0 +1,56 @@
+-- `signing::answer_tag` meets its contract: the first bytes of the code over the covered bytes, the data and 0x01. Assumes nothing.
+use mathlib.Core.Path.{ap, _∙_}
+use lib.ListN.{length, take}
+use mathlib.Core.List.{[], _∷_, _++_}
+use Prim.Native.Nat.{_+_}
+use denote.Ref.{now}
+use Rattle.primitives.specs.Standards.{HMAC}
+use Rattle.wire.proofs.Tagged.{covered-then}
+use Rattle.wire.specs.Signing.{tagBytes, answerTag}
+use borrow.Author.Needs.{needs}
+use Rattle.wire.proofs.signing.answer_tag.Statement.{statement}
+use Rattle.wire.proofs.signing.answer_tag.Tie as tie
+
+add-size : tie.Need-add-size
+add-size c = search needs
+
+cast-covered : tie.Need-cast-covered
+cast-covered c = search needs
+
+covered-requires : tie.Need-covered-requires
+covered-requires c κs = search needs
+
+slice-aggregate-mac : tie.Need-slice-aggregate-mac
+slice-aggregate-mac c = search needs
+
+slice-aggregate-mac-2 : tie.Need-slice-aggregate-mac-2
+slice-aggregate-mac-2 c = search needs
+
+mac-requires : tie.Need-mac-requires
+mac-requires c κs = search needs
+
+first-eight-requires : tie.Need-first-eight-requires
+first-eight-requires c κs = search needs
+
+returns : tie.Need-returns
+unfolding answerTag
+returns c =
+    let a = c .before .before .before .before .before .before .before .args in
+    c .first-eight .ensures
+    ∙ ap (take tagBytes)
+    (c .before .mac .ensures
+    ∙ ap (HMAC (now (a .key)))
+    (covered-then (a .nonce) (a .id) (tagBytes + length (now (a .«data»))) (c .before .before .before .before .covered .result) (now (a .«data») ++ (0x01 ∷ [])) (c .before .before .before .before .covered .ensures)))
+
+pub answer-tag-spec : {M : Type 1} → statement M
+answer-tag-spec =
+    tie.close
+    (tie.spec
+    add-size
+    cast-covered
+    covered-requires
+    slice-aggregate-mac
+    slice-aggregate-mac-2
+    mac-requires
+    first-eight-requires
+    returns)

@@ -1,0 +1,52 @@
+-- `signing::first_eight` meets its contract: the first eight elements, written out. Assumes nothing.
+use mathlib.Core.Path.{_≡_, sym}
+use native.Mathlib.Omega.{arith}
+use lib.ListN.{length}
+use Rattle.laws.specs.Bytes.{tabulate}
+use Rattle.laws.proofs.Elements.{first-elements}
+use borrow.Author.Needs.{needs}
+use Rattle.wire.proofs.signing.first_eight.Statement.{statement}
+use Rattle.wire.proofs.signing.first_eight.Tie as tie
+
+array-read-t5 : tie.Need-array-read-t5
+array-read-t5 c = search needs
+
+array-read-t8 : tie.Need-array-read-t8
+array-read-t8 c = search needs
+
+array-read-t11 : tie.Need-array-read-t11
+array-read-t11 c = search needs
+
+array-read-t14 : tie.Need-array-read-t14
+array-read-t14 c = search needs
+
+array-read-t17 : tie.Need-array-read-t17
+array-read-t17 c = search needs
+
+array-read-t20 : tie.Need-array-read-t20
+array-read-t20 c = search needs
+
+array-read-t23 : tie.Need-array-read-t23
+array-read-t23 c = search needs
+
+array-read-t26 : tie.Need-array-read-t26
+array-read-t26 c = search needs
+
+returns : tie.Need-returns
+unfolding tabulate
+returns c =
+    let n : length (c .args .t1) ≡ 32 = search needs in sym (first-elements 0 8 (c .args .t1) (omega arith))
+
+pub first-eight-spec : {M : Type 1} → statement M
+first-eight-spec =
+    tie.close
+    (tie.spec
+    array-read-t5
+    array-read-t8
+    array-read-t11
+    array-read-t14
+    array-read-t17
+    array-read-t20
+    array-read-t23
+    array-read-t26
+    returns)

@@ -1,0 +1,49 @@
+-- `signing::request_tag` meets its contract: the first bytes of the code over the covered bytes and the data. Assumes nothing.
+use mathlib.Core.Path.{ap, _∙_}
+use lib.ListN.{take}
+use mathlib.Core.List.{List, _++_, append-nil}
+use Prim.Native.Nat.{ℕ}
+use denote.Ref.{now}
+use Rattle.primitives.specs.Standards.{HMAC}
+use Rattle.wire.proofs.Tagged.{covered-then}
+use Rattle.wire.specs.Signing.{tagBytes, requestTag}
+use borrow.Author.Needs.{needs}
+use Rattle.wire.proofs.signing.request_tag.Statement.{statement}
+use Rattle.wire.proofs.signing.request_tag.Tie as tie
+
+covered-requires : tie.Need-covered-requires
+covered-requires c κs = search needs
+
+slice-aggregate-mac : tie.Need-slice-aggregate-mac
+slice-aggregate-mac c = search needs
+
+slice-aggregate-mac-2 : tie.Need-slice-aggregate-mac-2
+slice-aggregate-mac-2 c = search needs
+
+mac-requires : tie.Need-mac-requires
+mac-requires c κs = search needs
+
+first-eight-requires : tie.Need-first-eight-requires
+first-eight-requires c κs = search needs
+
+returns : tie.Need-returns
+unfolding requestTag
+returns c =
+    let a = c .before .before .before .before .before .before .before .args in
+    c .first-eight .ensures
+    ∙ ap (take tagBytes)
+    (c .before .mac .ensures
+    ∙ ap (HMAC (now (a .key)))
+    (ap (λ (l : List ℕ). c .before .before .before .before .covered .result ++ l) (append-nil (now (a .additional)))
+    ∙ covered-then (a .nonce) (a .id) (a .size) (c .before .before .before .before .covered .result) (now (a .additional)) (c .before .before .before .before .covered .ensures)))
+
+pub request-tag-spec : {M : Type 1} → statement M
+request-tag-spec =
+    tie.close
+    (tie.spec
+    covered-requires
+    slice-aggregate-mac
+    slice-aggregate-mac-2
+    mac-requires
+    first-eight-requires
+    returns)

@@ -1,0 +1,4 @@
+pub mod Signing
+pub mod Shape
+pub mod KeyBlocks
+pub mod Wrote

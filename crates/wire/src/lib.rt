@@ -1,0 +1,13 @@
+// What goes over the air: the parts of a write, keys made from the identity key, tags, key proofs and answers. Nothing here knows a unit.
+
+pub mod answer;
+pub mod blocks;
+pub mod shape;
+pub mod signing;
+
+// The first ten bytes of a write: ID, length and tag. The additional data follows as a part of the write itself.
+pub struct Head {
+    pub id: u8,
+    pub size: u8,
+    pub tag: [u8; 8],
+}
