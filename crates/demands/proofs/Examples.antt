@@ -1,0 +1,12 @@
+-- The edges hold: each row of the table is computed. Assumes nothing.
+use mathlib.Core.Path.{refl}
+use Rattle.unit.specs.WellFormed.{settingsLegal}
+use Rattle.laws.specs.Bytes.{number, numberAfter, bigEndian}
+use Rattle.requests.specs.Ringing.{ring, rung, ringLegal}
+use Rattle.tag.specs.Calls.{newUnit}
+use Rattle.tag.specs.Time.{clockOn, ringOn, oneTenth, afterTenth, tenths}
+use Rattle.demands.specs.Examples.{table, Edges}
+
+pub edges : Edges
+unfolding table settingsLegal ring rung ringLegal number numberAfter bigEndian newUnit clockOn ringOn oneTenth afterTenth tenths
+edges = (refl, (refl, (refl, (refl, (refl, (refl, (refl, (refl, (refl, (refl, (refl, (refl, (refl, tt)))))))))))))

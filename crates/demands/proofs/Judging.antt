@@ -1,0 +1,86 @@
+-- How a write of ID, length, eight tag bytes and additional data is judged: its parts are those, and where the unit takes writes, the
+-- length is legal and a needed identity key is there, it comes to the judgement by its ID. Assumes nothing.
+use Prim.Native.Nat.{ℕ, _+_, _≤_}
+use mathlib.Core.Path.{_≡_, _∙_}
+use mathlib.Core.Bool.{true, _||_}
+use mathlib.Core.List.{List, [], _∷_, _++_}
+use native.Mathlib.Omega.{arith}
+use lib.Dec.{ltb}
+use lib.ListN.{length, take, length-append}
+use lib.Seq.{take-at, drop-at, length-take-le}
+use borrow.Author.Tests.{le-ltb, le-leb, eq-eqb}
+use Rattle.laws.proofs.Flags.{both}
+use Rattle.laws.proofs.Same.{same-refl}
+use Rattle.primitives.specs.Standards.{SHA256, HMAC}
+use Rattle.primitives.proofs.Laws.{length-SHA256, length-HMAC}
+use Rattle.wire.specs.Signing.{version, tagBytes, requestTag, answerTag, keyProof}
+use Rattle.wire.specs.Shape.{Request, parsed, sizeLegal, shapeLegal}
+use Rattle.unit.specs.declared.TagUnit.{TagUnit}
+use Rattle.unit.specs.Numbers.{answerRoom}
+use Rattle.unit.specs.WellFormed.{wellFormed}
+use Rattle.unit.specs.Change.{spent}
+use Rattle.unit.specs.Outcome.{Outcome, formed, answering}
+use Rattle.requests.specs.Judgement.{accepts, tagged}
+use Rattle.requests.specs.Write.{byId, judged, written}
+use Rattle.tag.specs.Calls as tag
+use Rattle.demands.specs.History.{step}
+use Rattle.demands.specs.Accepted.{Open, Serves}
+
+-- tags and proofs have eight bytes
+eight-first : (digest : List ℕ) → length digest ≡ 32 → length (take 8 digest) ≡ 8
+eight-first digest n = length-take-le 8 digest (omega arith)
+
+pub length-requestTag : (key nonce : List ℕ) (id size : ℕ) (additional : List ℕ) → length (requestTag key nonce id size additional) ≡ 8
+unfolding requestTag
+length-requestTag key nonce id size additional =
+    let text : List ℕ = version ∷ nonce ++ (id ∷ size ∷ additional) in
+    eight-first (HMAC key text) (length-HMAC key text)
+
+pub length-answerTag : (key nonce : List ℕ) (id : ℕ) («data» : List ℕ) → length (answerTag key nonce id «data») ≡ 8
+unfolding answerTag
+length-answerTag key nonce id «data» =
+    let text : List ℕ = version ∷ nonce ++ (id ∷ (tagBytes + length «data») ∷ «data» ++ (0x01 ∷ [])) in
+    eight-first (HMAC key text) (length-HMAC key text)
+
+pub length-keyProof : (identity nonce : List ℕ) → length (keyProof identity nonce) ≡ 8
+unfolding keyProof
+length-keyProof identity nonce = eight-first (SHA256 (identity ++ nonce)) (length-SHA256 (identity ++ nonce))
+
+-- the parts of a write, as a request; its length byte counts the tag and the additional data
+abbrev pub requestOf : ℕ → ℕ → List ℕ → List ℕ → Request
+requestOf id size mark additional = record { id = id; size = size; tag = mark; additional = additional }
+
+abbrev pub bytesOf : ℕ → ℕ → List ℕ → List ℕ → List ℕ
+bytesOf id size mark additional = id ∷ size ∷ mark ++ additional
+
+module _ (id size : ℕ) (mark additional : List ℕ) (eight : length mark ≡ 8) (sized : tagBytes + length additional ≡ size) where
+  pub parts : parsed (bytesOf id size mark additional) ≡ requestOf id size mark additional
+  unfolding parsed
+  parts = rw (take-at mark additional 8 eight, drop-at mark additional 8 eight)
+
+  pub shape : sizeLegal id size ≡ true → shapeLegal (bytesOf id size mark additional) ≡ true
+  unfolding shapeLegal
+  shape legal =
+      let all : length (mark ++ additional) ≡ length mark + length additional = length-append mark additional in
+      both (le-leb 2 (length (bytesOf id size mark additional)) (omega arith))
+      (both legal (eq-eqb (length (bytesOf id size mark additional)) (size + 2) (omega arith)))
+
+-- "Order: 6, 2, then the call's own": where there is room, a well-formed unit passes both
+pub opened : (u : TagUnit) (room : ℕ) (o : Outcome) → wellFormed u ≡ true → answerRoom ≤ room → answering room u o ≡ o
+unfolding answering formed
+opened u room o right fits = rw (le-ltb room answerRoom fits, right)
+
+pub accepted-as : {u : TagUnit} {room : ℕ} {after : TagUnit} {answer : List ℕ} (id size : ℕ) (mark additional : List ℕ) → length mark ≡ 8
+    → tagBytes + length additional ≡ size → Open u room → sizeLegal id size ≡ true → (ltb id 0x03 || u .identity .held) ≡ true
+    → byId (spent u) (requestOf id size mark additional) ≡ accepts after answer
+    → Serves (bytesOf id size mark additional) room u answer after
+unfolding step tag.write written judged
+accepted-as {u} {room} id size mark additional eight sized ready legal there accepted =
+    opened u room (written u (bytesOf id size mark additional)) (ready .formed) (ready .fits)
+    ∙ rw (shape id size mark additional eight sized legal, ready .live, parts id size mark additional eight sized, there, accepted)
+
+-- the tag that a key makes is the one that it is held to
+pub own-tag : (key nonce : List ℕ) (id size : ℕ) (additional : List ℕ)
+    → tagged key nonce (requestOf id size (requestTag key nonce id size additional) additional) ≡ true
+unfolding tagged
+own-tag key nonce id size additional = same-refl (requestTag key nonce id size additional)

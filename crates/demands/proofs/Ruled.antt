@@ -1,0 +1,186 @@
+-- What an accepted write did, as far as nonce and keys go: it set a key, it cleared, it recovered, or it left nonce, account keys and
+-- identity key alone. Each handler is gone through once, check by check. Assumes nothing.
+use Prim.Native.Nat.{ℕ}
+use mathlib.Core.Path.{_≡_, refl, sym, ap, _∙_}
+use mathlib.Core.Bool.{Bool, true, false, cond, _&&_, _||_}
+use mathlib.Core.List.{List}
+use native.Mathlib.Omega.{arith}
+use lib.Dec.{eqb, leb, ltb}
+use borrow.Author.Tests.{eqb-true}
+use Rattle.laws.specs.Answer.{gives}
+use Rattle.wire.specs.Shape.{Request, parsed, shapeLegal}
+use Rattle.wire.specs.Signing.{recoveryKey, ringKey, protectionKey}
+use Rattle.wire.specs.KeyBlocks.{decryptedKey, encryptedKey}
+use Rattle.unit.specs.declared.TagUnit.{TagUnit}
+use Rattle.unit.specs.declared.Owner.{Owner}
+use Rattle.unit.specs.WellFormed.{wellFormed}
+use Rattle.unit.specs.Change.{spent}
+use Rattle.unit.specs.Outcome.{Outcome, giving, refusing}
+use Rattle.requests.specs.declared.Found.{Found}
+use Rattle.requests.specs.Judgement.{Judgement, accepts, rejects, keyAt, answered, ownerPlace, withKey, firstTagged, tagged, proves, lastNonce}
+use Rattle.requests.specs.Provisioning.{readParameters, readState, setKey, mayReplace, rekeyed, clearKey, cleared, recoverKey, ownerFor}
+use Rattle.requests.specs.Ringing.{skips, ringLegal, ringMask, ring, rung, readSound}
+use Rattle.requests.specs.Protecting.{flagOf, protect, unprotect}
+use Rattle.requests.specs.Write.{byId, keyThere, judged, settled, written}
+use Rattle.demands.specs.History.{write, step}
+use Rattle.demands.proofs.Guards.{Met, barred, passed, met, not-both}
+
+-- the same nonce, account keys and identity key; and the same owner, where there was one
+pub record Alone (u v : TagUnit) : Type 0 where
+  pub nonce : v .nonce ≡ u .nonce
+  pub accounts : v .accounts ≡ u .accounts
+  pub identity : v .identity ≡ u .identity
+  pub owner : (p : ℕ) → u .owner ≡ Owner.Place p → v .owner ≡ Owner.Place p
+
+pub alone : (u : TagUnit) → Alone u u
+alone u = search
+
+-- an ID that neither sets nor recovers a key
+pub record Keyless (id : ℕ) : Type 0 where
+  pub notSet : id ≡ 0x02 → ⊥
+  pub notRecovered : id ≡ 0x04 → ⊥
+
+-- What the request q did with the unit u that it was judged on
+pub data Did (u : TagUnit) (q : Request) : Judgement → Type 0 where
+  refused : (n : ℕ) → Did u q (rejects n)
+  set : {answer : List ℕ} (p : ℕ) → q .id ≡ 0x02 → u .owner ≡ Owner.Place p
+      → Did u q (accepts (rekeyed (decryptedKey (keyAt u p) (q .additional)) u) answer)
+  clear : {answer : List ℕ} → q .id ≡ 0x03 → Did u q (accepts (cleared u) answer)
+  recovered : (p : ℕ) → q .id ≡ 0x04 → u .owner ≡ Owner.Place p
+      → Did u q (accepts u (answered (recoveryKey (u .identity .bytes)) u q (encryptedKey (keyAt u p) (u .identity .bytes))))
+  other : {v : TagUnit} {answer : List ℕ} → Keyless (q .id) → Alone u v → Did u q (accepts v answer)
+
+-- What holds on both sides of a choice holds of the choice
+pub choose : {A : Type 0} (P : A → Type 0) (b : Bool) {x y : A} → (b ≡ true → P x) → (b ≡ false → P y) → P (cond b x y)
+choose P true f g = f refl
+choose P false f g = g refl
+
+module _ (u : TagUnit) (q : Request) where
+  abbrev Rules : Judgement → Type 0
+  Rules j = Did u q j
+
+  checked : (ok : Bool) (n : ℕ) {next : Judgement} → Rules next → Rules (cond ok next (rejects n))
+  checked ok n next = choose Rules ok (λ e. next) (λ e. refused n)
+
+  with-key : (f : Found) (g : ℕ → Judgement) → ((p : ℕ) → f ≡ Found.At p → Rules (g p)) → Rules (withKey f g)
+  with-key (Found.At p) g h = h p refl
+  with-key Found.Nowhere g h = refused 0x80
+
+  with-owner : (o : Owner) (g : ℕ → Judgement) → ((p : ℕ) → o ≡ Owner.Place p → Rules (g p)) → Rules (withKey (ownerPlace o) g)
+  with-owner (Owner.Place p) g h = h p refl
+  with-owner Owner.Nobody g h = refused 0x80
+
+  did-set : q .id ≡ 0x02 → Rules (setKey u q)
+  unfolding setKey
+  did-set e = with-owner (u .owner) _ (λ p o. checked (tagged (keyAt u p) (lastNonce u) q && mayReplace u q) 0x80 (set p e o))
+
+  did-clear : q .id ≡ 0x03 → Rules (clearKey u q)
+  unfolding clearKey
+  did-clear e = with-owner (u .owner) _ (λ p o. checked (tagged (keyAt u p) (lastNonce u) q && proves u (q .additional)) 0x80 (clear e))
+
+  did-recover : q .id ≡ 0x04 → Rules (recoverKey u q)
+  unfolding recoverKey
+  did-recover e =
+      with-owner (u .owner) _
+      (λ p o.
+      checked (tagged (recoveryKey (u .identity .bytes)) (lastNonce u) q) 0x80
+      (checked (ltb 0 (u .consent) || u .pairing) 0x82 (recovered p e o)))
+
+  -- the owner of 0x01
+  owner-stays : (o : Owner) (at p : ℕ) → o ≡ Owner.Place p → ownerFor o at ≡ Owner.Place p
+  owner-stays (Owner.Place r) at p e = e
+  owner-stays Owner.Nobody at p e = cc
+
+  module _ (k : Keyless (q .id)) where
+    did-parameters : Rules (readParameters u q)
+    unfolding readParameters
+    did-parameters = with-key (firstTagged u q) _ (λ p e. other k (alone u))
+
+    did-state : Rules (readState u q)
+    unfolding readState
+    did-state =
+        with-key (firstTagged u q) _
+        (λ p e. other k (record { nonce = refl; accounts = refl; identity = refl; owner = owner-stays (u .owner) p }))
+
+    did-ring : Rules (ring u q)
+    unfolding ring rung
+    did-ring =
+        checked (skips (u .protection) || tagged (ringKey (u .identity .bytes)) (lastNonce u) q) 0x80
+        (checked (ringLegal (u .settings) (q .additional)) 0x81
+        (choose Rules (eqb (ringMask (u .settings) (q .additional)) 0) (λ e. other k (search)) (λ e. other k (search))))
+
+    did-sound : Rules (readSound u q)
+    unfolding readSound
+    did-sound = checked (tagged (ringKey (u .identity .bytes)) (lastNonce u) q) 0x80 (other k (alone u))
+
+    did-protect : Rules (protect u q)
+    unfolding protect
+    did-protect =
+        checked (tagged (protectionKey (u .identity .bytes)) (lastNonce u) q) 0x80
+        (checked (leb (flagOf (q .additional)) 1) 0x81 (other k (search)))
+
+    did-unprotect : Rules (unprotect u q)
+    unfolding unprotect
+    did-unprotect =
+        checked (tagged (protectionKey (u .identity .bytes)) (lastNonce u) q && proves u (q .additional)) 0x80
+        (other k (search))
+
+  -- `omega` sees that the other IDs neither set nor recover a key
+  by-id : Rules (byId u q)
+  unfolding byId
+  by-id =
+      choose Rules _ (λ e. let n = eqb-true (q .id) 0 e in did-parameters (omega arith)) (λ _.
+      choose Rules _ (λ e. let n = eqb-true (q .id) 1 e in did-state (omega arith)) (λ _.
+      choose Rules _ (λ e. did-set (eqb-true (q .id) 2 e)) (λ _.
+      choose Rules _ (λ e. did-clear (eqb-true (q .id) 3 e)) (λ _.
+      choose Rules _ (λ e. did-recover (eqb-true (q .id) 4 e)) (λ _.
+      choose Rules _ (λ e. let n = eqb-true (q .id) 5 e in did-ring (omega arith)) (λ _.
+      choose Rules _ (λ e. let n = eqb-true (q .id) 6 e in did-sound (omega arith)) (λ _.
+      choose Rules _ (λ e. let n = eqb-true (q .id) 7 e in did-protect (omega arith)) (λ _.
+      choose Rules _ (λ e. let n = eqb-true (q .id) 8 e in did-unprotect (omega arith)) (λ _. refused 0x81)))))))))
+
+-- How a write that passed 6 and 2 ended
+pub data Written (u : TagUnit) (w : List ℕ) : Outcome → Type 0 where
+  turned : (n : ℕ) → Written u w (refusing n (spent u))
+  served : {v : TagUnit} {answer : List ℕ} → shapeLegal w ≡ true → u .nonce .live ≡ true → Did (spent u) (parsed w) (accepts v answer)
+      → Written u w (giving answer v)
+
+module _ (u : TagUnit) (w : List ℕ) where
+  settle : {j : Judgement} → shapeLegal w ≡ true → u .nonce .live ≡ true → Did (spent u) (parsed w) j → Written u w (settled (spent u) j)
+  settle s l (refused n) = turned n
+  settle s l (set p e o) = served s l (set p e o)
+  settle s l (clear e) = served s l (clear e)
+  settle s l (recovered p e o) = served s l (recovered p e o)
+  settle s l (other k a) = served s l (other k a)
+
+  pub ends-written : Written u w (written u w)
+  unfolding written judged
+  ends-written =
+      let P : Judgement → Type 0 = λ j. Written u w (settled (spent u) j) in
+      choose P (shapeLegal w)
+      (λ s.
+      choose P (u .nonce .live)
+      (λ l. choose P (keyThere u (parsed w)) (λ k. settle s l (by-id (spent u) (parsed w))) (λ k. turned 0x80))
+      (λ l. turned 0x80))
+      (λ s. turned 0x81)
+
+-- An accepted write: on a well-formed unit with a live nonce, of a legal shape
+pub record Served (u : TagUnit) (w : List ℕ) (room : ℕ) (answer : List ℕ) : Type 0 where
+  pub formed : wellFormed u ≡ true
+  pub legal : shapeLegal w ≡ true
+  pub live : u .nonce .live ≡ true
+  pub did : Did (spent u) (parsed w) (accepts (step (write w room) u .unit) answer)
+
+module _ (w : List ℕ) (room : ℕ) (u : TagUnit) (answer : List ℕ) where
+  from-written : {o : Outcome} → wellFormed u ≡ true → step (write w room) u ≡ o → Written u w o → o .result ≡ gives answer → Served u w room answer
+  from-written formed e (turned n) r = absurd (let z : _≡_ {A = ℕ} 0 1 = cc in omega arith)
+  from-written formed e (served {answer = a} s l did) r =
+      let given : a ≡ answer = cc in
+      record { formed = formed; legal = s; live = l; did = rw e (rw given at did) }
+
+  pub accepted-write : step (write w room) u .result ≡ gives answer → Served u w room answer
+  accepted-write r = go (met (write w room) u)
+    where
+      go : Met (write w room) u → Served u w room answer
+      go (barred n e bars) = absurd (not-both (write w room) u e (answer, r))
+      go (passed fits formed e) = from-written formed e (ends-written u w) (sym (ap (λ (o : Outcome). o .result) e) ∙ r)

@@ -1,0 +1,9 @@
+pub mod History
+pub mod Ends
+pub mod Formed
+pub mod Accepted
+pub mod Nonces
+pub mod Recovery
+pub mod Time
+pub mod Examples
+pub mod Example
