@@ -1,0 +1,100 @@
+-- From a value behind its key to the line that it makes, and from there to what closing the line does. Assumes nothing.
+use Prim.Native.Nat.{ℕ, suc, _+_, _-_, _≤_, _<_}
+use mathlib.Core.Path.{_≡_, refl, sym, ap, _∙_}
+use mathlib.Core.Bool.{Bool, true, false, cond}
+use mathlib.Core.List.{List, [], _∷_, _++_}
+use mathlib.Core.Option.{Option, none, some}
+use native.Mathlib.Numerals.{add-one}
+use native.Mathlib.Omega.{arith}
+use lib.Dec.{leb}
+use lib.ListN.{length, take, drop, length-drop}
+use lib.Seq.{take-all}
+use borrow.Author.Tests.{le-leb, lt-leb}
+use Rattle.laws.specs.Bytes.{sameBytes}
+use Rattle.laws.proofs.Flags.{and-fails-right}
+use Rattle.laws.specs.Answer.{Result, gives, refuses}
+use Rattle.unit.specs.Refusals.{number, endOf, ending}
+use Rattle.unit.specs.Outcome.{Outcome, Settles}
+use Rattle.unit.specs.declared.TagUnit.{TagUnit}
+use Rattle.unit.specs.declared.Reply.{Reply}
+use Rattle.unit.specs.declared.Reply.the-variants.{Done, Refused}
+use Rattle.replay.specs.declared.Run.{Run}
+use Rattle.replay.specs.declared.Next.{Next}
+use Rattle.replay.specs.Event.{refusedText}
+use Rattle.replay.specs.Reading.{after}
+use Rattle.replay.specs.Values.{behind, readIn}
+use Rattle.replay.specs.Replay.{Expected, event, Line, follows, breaks, given, taken, judged, longestLine, mostLines}
+use Rattle.replay.specs.Feeding.{State, reading, ended, Fed, fedTo, closed, beginning}
+use Rattle.replay.specs.Session.{SoundRun, Closes, stateWith, moved, expecting, expectedOf}
+use Rattle.replay.proofs.Placed.{puts-nothing}
+
+-- a value behind its key makes the line that it should
+pub value-line : {A R : Type 0} (of : R → Option A) (key : List ℕ) (f : List ℕ → Option A) (g : A → Line) (l : List ℕ) {r told : R}
+    → of r ≡ behind key f l → r ≡ told → given (of told) g ≡ given (after key l) (λ v. given (f v) g)
+unfolding behind
+value-line {A} of key f g l {r} {told} is e = ap (λ (x : _). given (of x) g) (sym e) ∙ ap (λ (o : Option A). given o g) is ∙ go (after key l)
+  where
+    go : (o : Option (List ℕ)) → given (readIn o f) g ≡ given o (λ v. given (f v) g)
+    go none = refl
+    go (some v) = refl
+
+module _ (n : ℕ) (u : TagUnit) {at written : ℕ} {before : List ℕ} {run : Run} where
+  pub closes-as : {l l′ : Line} {out : List ℕ} → l ≡ l′ → Closes (closed l n u) at before run written out → Closes (closed l′ n u) at before run written out
+  closes-as e p = rw e at p
+
+  pub closes-fed : {f f′ : Fed} {out : List ℕ} → f ≡ f′ → Closes f at before run written out → Closes f′ at before run written out
+  closes-fed e p = rw e at p
+
+  -- a line that another is to follow prints nothing
+  pub closes-follow : (e : Expected) → stateWith run [] ≡ reading e (suc n) u [] → SoundRun run → written ≡ at
+      → Closes (closed (follows e) n u) at before run written before
+  unfolding closed
+  closes-follow e state sound w =
+      record { stateIs = state; sound = sound; few = omega arith; puts = rw w (puts-nothing at before) }
+
+-- the settings: a new unit, or a refusal that ends the run
+abbrev pub begunBy : Reply → TagUnit → ℕ → Fed
+begunBy (Done k) u n = fedTo (reading event (suc n) u []) []
+begunBy (Refused r) u n = fedTo ended (refusedText (number r))
+
+pub begins-by : (o : Outcome) {u : TagUnit} (reply : Reply) (n : ℕ) → Settles o u reply → begunBy reply u n ≡ beginning o (o .result) n
+begins-by o {u} reply n p = rw (p .unitIs) (go (o .result) reply (p .endIs))
+  where
+    go : (res : Result) (reply : Reply) → endOf reply ≡ ending res → begunBy reply (o .unit) n ≡ beginning o res n
+    go (gives a) (Done k) h = refl
+    go (gives a) (Refused r) h = let z : _≡_ {A = ℕ} 0 1 = cc in absurd (omega arith)
+    go (refuses k) (Done m) h = let z : _≡_ {A = ℕ} 0 1 = cc in absurd (omega arith)
+    go (refuses k) (Refused r) h = let same : number r ≡ k = cc in ap (λ (x : ℕ). fedTo ended (refusedText x)) same
+
+-- the run moved on to another line
+pub closes-moved : (e : Expected) (next : Next) (base : Run) {after : Run} {at written : ℕ} {before : List ℕ} → after ≡ moved next (base .unit) base
+    → base .ended ≡ false → base .number ≤ 999999 → base .filled ≤ 128 → expectedOf (moved next (base .unit) base) ≡ e → written ≡ at
+    → Closes (closed (follows e) (base .number) (base .unit)) at before after written before
+closes-moved e next base {after} {at} {written} {before} is going few fits means w =
+    closes-follow (base .number) (base .unit) e
+    (rw (is, going, means, add-one))
+    (rw is (record { numbered = omega arith; withinR = fits }))
+    w
+
+-- what stands behind a key, where the line begins with it
+module _ (key line : List ℕ) {r : Bool} (found : r ≡ sameBytes (take (length key) line) key) (g : List ℕ → Line) where
+  pub keyed-line : r ≡ true → g (take (length line - length key) (drop (length key) line)) ≡ given (after key line) g
+  unfolding after
+  keyed-line h =
+      rw (sym found ∙ h)
+      (ap g (take-all (length line - length key) (drop (length key) line) (omega (arith, length-drop (length key) line))))
+
+  pub unkeyed-line : r ≡ false → breaks ≡ given (after key line) g
+  unfolding after
+  unkeyed-line h = rw (sym found ∙ h)
+
+-- a line within the limits is judged by what is expected
+module _ (run : Run) (line : List ℕ) where
+  pub judged-is : {next : Next} → run .next ≡ next → length line ≤ longestLine → run .number ≤ mostLines
+      → taken (expecting next (run .power) (run .components) (take (run .filled) (run .r))) line ≡ judged (expectedOf run) (run .number) line
+  unfolding judged
+  judged-is e short few = rw (le-leb (length line) longestLine short, le-leb (run .number) mostLines few, e)
+
+  pub judged-late : mostLines < run .number → breaks ≡ judged (expectedOf run) (run .number) line
+  unfolding judged
+  judged-late late = rw (lt-leb (run .number) mostLines late, and-fails-right (leb (length line) longestLine) refl)

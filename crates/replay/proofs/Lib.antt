@@ -1,0 +1,12 @@
+pub mod AnyPieces
+pub mod Placed
+pub mod Hex
+pub mod Decimal
+pub mod Numerals
+pub mod Unhexed
+pub mod Behind
+pub mod Texts
+pub mod Performed
+pub mod ClosedLines
+pub mod Pieces
+pub mod Ending

@@ -1,0 +1,141 @@
+-- From what the tag's calls promise to what an event prints, and from there to a closed line. Assumes nothing.
+use Prim.Native.Nat.{ℕ, suc, _+_, _≤_, _<_}
+use mathlib.Core.Path.{_≡_, refl, sym, ap, _∙_}
+use mathlib.Core.Bool.{false, cond}
+use mathlib.Core.List.{List, [], _∷_, _++_}
+use native.Mathlib.Numerals.{add-one}
+use native.Mathlib.Omega.{arith}
+use lib.ListN.{length, take, drop, length-append}
+use lib.Seq.{take-append-seam, length-take-le}
+use Rattle.laws.specs.Answer.{Result, gives, refuses, lentAfter}
+use Rattle.unit.specs.Refusals.{number, endOf, ending, wrote, refused}
+use Rattle.unit.specs.Outcome.{Outcome, Answers, Settles}
+use Rattle.unit.specs.declared.TagUnit.{TagUnit}
+use Rattle.unit.specs.declared.Reply.{Reply}
+use Rattle.unit.specs.declared.Reply.the-variants.{Done, Refused}
+use Rattle.tag.specs.Passes.{Passes}
+use Rattle.replay.specs.declared.Run.{Run}
+use Rattle.replay.specs.declared.Next.the-variants as next
+use Rattle.replay.specs.Event.{Event, performed, printed, successText, bytesText, refusedText, notesText, elapsed}
+use Rattle.replay.specs.Text.{ascii, decimal, newline}
+use Rattle.replay.specs.Replay.{brings}
+use Rattle.replay.specs.Feeding.{closed}
+use Rattle.replay.specs.Written.{Puts}
+use Rattle.replay.specs.Session.{SoundRun, Ready, Closes, moved, answeredText, settledText, passedText, elapsedText, repliesWithin, lineRoom}
+use Rattle.replay.proofs.Texts.{length-bytes, length-refused, length-notes}
+use Rattle.replay.proofs.Decimal.{length-decimal}
+
+-- an answer stands at the front of the lent bytes
+taken-back : (n : ℕ) (a before after : List ℕ) → wrote n ≡ wrote (length a) → after ≡ lentAfter (gives a) before → take n after ≡ a
+unfolding lentAfter
+taken-back n a before after h b =
+    let e : n ≡ length a = cc in
+    rw (e, b) (take-append-seam a (drop (length a) before))
+
+module _ (o : Outcome) (e : Event) (title : List ℕ) where
+  -- an event with answer bytes
+  pub answers-printed : ((a : List ℕ) → successText e o a ≡ title ++ bytesText a) → {u : TagUnit} {reply : Reply} {before after : List ℕ}
+      → Answers o u reply before after → answeredText title reply after ≡ printed e o (o .result)
+  unfolding printed
+  answers-printed success {u} {reply} {before} {after} p = go (o .result) reply (p .endIs) (p .bytesAre)
+    where
+      go : (res : Result) (reply : Reply) → endOf reply ≡ ending res → after ≡ lentAfter res before → answeredText title reply after ≡ printed e o res
+      go (gives a) (Done n) h b = rw (taken-back n a before after h b) (sym (success a))
+      go (gives a) (Refused r) h b = let z : _≡_ {A = ℕ} 0 1 = cc in absurd (omega arith)
+      go (refuses k) (Done n) h b = let z : _≡_ {A = ℕ} 0 1 = cc in absurd (omega arith)
+      go (refuses k) (Refused r) h b = let same : number r ≡ k = cc in ap refusedText same
+
+  -- one without
+  pub settles-printed : ((a : List ℕ) → successText e o a ≡ title) → {u : TagUnit} {reply : Reply}
+      → Settles o u reply → settledText title reply ≡ printed e o (o .result)
+  unfolding printed
+  settles-printed success {u} {reply} p = go (o .result) reply (p .endIs)
+    where
+      go : (res : Result) (reply : Reply) → endOf reply ≡ ending res → settledText title reply ≡ printed e o res
+      go (gives a) (Done n) h = sym (success a)
+      go (gives a) (Refused r) h = let z : _≡_ {A = ℕ} 0 1 = cc in absurd (omega arith)
+      go (refuses k) (Done n) h = let z : _≡_ {A = ℕ} 0 1 = cc in absurd (omega arith)
+      go (refuses k) (Refused r) h = let same : number r ≡ k = cc in ap refusedText same
+
+-- time
+pub passes-printed : (o : Outcome) (n : ℕ) {u : TagUnit} {reply : Reply} {at : ℕ} {before after : List ℕ}
+    → Passes o u reply at before after → passedText at (u .clock .seconds) reply after ≡ printed (elapsed n) o (o .result)
+unfolding printed successText
+passes-printed o n {u} {reply} {at} {before} {after} p =
+    rw (p .endedIs, p .answers .unitIs) (go (o .result) reply (p .answers .endIs) (p .answers .bytesAre))
+  where
+    go : (res : Result) (reply : Reply) → endOf reply ≡ ending res → after ≡ lentAfter res before
+        → passedText (o .ended) (o .unit .clock .seconds) reply after ≡ printed (elapsed n) o res
+    go (gives a) (Done n) h b = rw (taken-back n a before after h b)
+    go (gives a) (Refused r) h b = let z : _≡_ {A = ℕ} 0 1 = cc in absurd (omega arith)
+    go (refuses k) (Done n) h b = let z : _≡_ {A = ℕ} 0 1 = cc in absurd (omega arith)
+    go (refuses k) (Refused r) h b = let same : number r ≡ k = cc in ap refusedText same
+
+-- no more bytes are said to be written than there are
+pub answers-within : {o : Outcome} {u : TagUnit} {reply : Reply} {before after : List ℕ} (room : ℕ)
+    → Answers o u reply before after → length after ≡ room → repliesWithin reply room
+unfolding lentAfter
+answers-within {o} {u} {reply} {before} {after} room p size = go (o .result) reply (p .endIs) (p .bytesAre)
+  where
+    go : (res : Result) (reply : Reply) → endOf reply ≡ ending res → after ≡ lentAfter res before → repliesWithin reply room
+    go (gives a) (Done n) h b =
+        let e : n ≡ length a = cc in
+        let long : length after ≡ length a + length (drop (length a) before) = ap length b ∙ length-append a (drop (length a) before) in
+        omega arith
+    go (gives a) (Refused r) h b = tt
+    go (refuses k) (Done n) h b = let z : _≡_ {A = ℕ} 0 1 = cc in absurd (omega arith)
+    go (refuses k) (Refused r) h b = tt
+
+module _ (title : List ℕ) (short : length title ≤ 32) where
+  pub length-answered : (reply : Reply) (answer : List ℕ) → length answer ≡ 42 → repliesWithin reply 42 → length (answeredText title reply answer) ≤ lineRoom
+  length-answered (Done n) answer size within =
+      let cut : length (take n answer) ≡ n = length-take-le n answer (omega arith) in
+      omega (arith, length-append title (bytesText (take n answer)), length-bytes (take n answer) (omega arith))
+  length-answered (Refused r) answer size within = omega (arith, length-refused (number r))
+
+  pub length-settled : (reply : Reply) → length (settledText title reply) ≤ lineRoom
+  length-settled (Done n) = omega arith
+  length-settled (Refused r) = omega (arith, length-refused (number r))
+
+pub length-passed : (at seconds : ℕ) (reply : Reply) (answer : List ℕ) → length answer ≡ 42 → repliesWithin reply 42
+    → length (passedText at seconds reply answer) ≤ lineRoom
+length-passed at seconds (Done n) answer size within =
+    let cut : length (take n answer) ≡ n = length-take-le n answer (omega arith) in
+    omega (
+      arith,
+      length-notes at (take n answer) (omega arith),
+      length-decimal seconds,
+      length-append (notesText at (take n answer)) (ascii "clock=" ++ (decimal seconds ++ (newline ∷ []))),
+      length-append (decimal seconds) (newline ∷ []),
+    )
+length-passed at seconds (Refused r) answer size within = omega (arith, length-refused (number r))
+
+-- an event that was performed closes its line
+pub closes-event : (e : Event) (run after : Run) (u : TagUnit) {at written : ℕ} {text before out : List ℕ} → Ready run at before
+    → after ≡ moved next.Event u run → u ≡ performed e (run .unit) .unit
+    → text ≡ printed e (performed e (run .unit)) (performed e (run .unit) .result)
+    → length text ≤ lineRoom → Puts text at before written out
+    → Closes (closed (brings e) (run .number) (run .unit)) at before after written out
+unfolding closed
+closes-event e run after u {at} {written} {text} {before} {out} ready is unit prints few puts =
+    record {
+      stateIs = rw (is, ready .going, unit, add-one);
+      sound = rw is (record { numbered = omega (arith, ready .counted); withinR = ready .sound .withinR });
+      few = rw prints at few;
+      puts = rw prints at puts;
+    }
+
+module _ (e : Event) (title : List ℕ) (short : length title ≤ 32) {run after : Run} {u : TagUnit} {reply : Reply} {before out : List ℕ} {at written : ℕ}
+    (ready : Ready run at before) (is : after ≡ moved next.Event u run) where
+  pub closes-answered : ((o : Outcome) (a : List ℕ) → successText e o a ≡ title ++ bytesText a) → {lent answer : List ℕ}
+      → Answers (performed e (run .unit)) u reply lent answer → length answer ≡ 42 → Puts (answeredText title reply answer) at before written out
+      → Closes (closed (brings e) (run .number) (run .unit)) at before after written out
+  closes-answered success {lent} {answer} p size puts =
+      closes-event e run after u ready is (p .unitIs) (answers-printed (performed e (run .unit)) e title (success (performed e (run .unit))) p)
+      (length-answered title short reply answer size (answers-within 42 p size)) puts
+
+  pub closes-settled : ((o : Outcome) (a : List ℕ) → successText e o a ≡ title) → Settles (performed e (run .unit)) u reply
+      → Puts (settledText title reply) at before written out → Closes (closed (brings e) (run .number) (run .unit)) at before after written out
+  closes-settled success p puts =
+      closes-event e run after u ready is (p .unitIs) (settles-printed (performed e (run .unit)) e title (success (performed e (run .unit))) p)
+      (length-settled title short reply) puts

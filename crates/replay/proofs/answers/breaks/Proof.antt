@@ -1,0 +1,29 @@
+-- `replay::answers::breaks` meets its contract: the run is ended, and the text is of at most 33 bytes. Assumes nothing.
+use native.Mathlib.Omega.{arith}
+use mathlib.Core.Path.{refl}
+use Rattle.replay.proofs.Texts.{length-malformed}
+use borrow.Author.Needs.{needs}
+use Rattle.replay.proofs.answers.breaks.Statement.{statement}
+use Rattle.replay.proofs.answers.breaks.Tie as tie
+use Rattle.replay.proofs.answers.breaks.Reads as reads
+use Rattle.replay.proofs.answers.breaks.Lts as lts
+use Rattle.replay.proofs.answers.malformed.Reads as malformed-reads
+
+malformed-requires : tie.Need-malformed-requires
+malformed-requires c κs = search needs
+
+same-length : tie.Need-same-length
+same-length c = search needs
+
+returns : tie.Need-returns
+returns c =
+    let known = c .before .before .before .before .before .args in
+    record {
+      stateIs = refl;
+      sound = record { numbered = c .before .before .before .before .before .pre .1 .numbered; withinR = c .before .before .before .before .before .pre .1 .withinR };
+      few = omega (arith, length-malformed (known .run .number));
+      puts = c .before .before .malformed .ensures;
+    }
+
+pub breaks-spec : {M : Type 1} → statement M
+breaks-spec = tie.close (tie.spec malformed-requires same-length returns)

@@ -1,0 +1,36 @@
+-- `replay::answers::success` meets its contract: the title, and then the bytes. Assumes nothing.
+use native.Mathlib.Omega.{arith}
+use mathlib.Core.Path.{sym}
+use lib.ListN.{length, take}
+use lib.Seq.{length-take-le}
+use Rattle.replay.proofs.Placed.{puts-then}
+use borrow.Author.Needs.{needs}
+use Rattle.replay.proofs.answers.success.Statement.{statement}
+use Rattle.replay.proofs.answers.success.Tie as tie
+use Rattle.replay.proofs.answers.success.Reads as reads
+use Rattle.replay.proofs.answers.success.Lts as lts
+use Rattle.replay.proofs.answers.bytes.Reads as bytes-reads
+use Rattle.replay.proofs.text.put.Reads as put-reads
+
+put-requires : tie.Need-put-requires
+put-requires c κs = search needs
+
+slice-aggregate-bytes : tie.Need-slice-aggregate-bytes
+slice-aggregate-bytes c =
+    let known = c .before .before .before .before .before .before .before .before .before .args in
+    sym (length-take-le (known .count) (known .answer .now) (omega arith))
+
+bytes-requires : tie.Need-bytes-requires
+bytes-requires c κs =
+    let known = c .before .before .before .before .before .before .before .before .before .args in
+    (omega (arith, length-take-le (known .count) (known .answer .now) (omega arith)), omega arith)
+
+same-length : tie.Need-same-length
+same-length c = search needs
+
+returns : tie.Need-returns
+returns c = puts-then (c .before .before .before .before .before .before .before .put .ensures) (c .before .before .bytes .ensures) (omega arith)
+
+pub success-spec : {M : Type 1} → statement M
+success-spec =
+    tie.close (tie.spec put-requires slice-aggregate-bytes bytes-requires same-length returns)

@@ -1,0 +1,31 @@
+-- `replay::sound` meets its contract, a count each. Assumes nothing.
+use mathlib.Core.Bool.{true≢false, false≢true}
+use native.Mathlib.Omega.{arith}
+use borrow.Author.Needs.{needs}
+use borrow.Author.Tests.{le-leb, leb-true}
+use Rattle.replay.proofs.sound.Statement.{statement}
+use Rattle.replay.proofs.sound.Tie as tie
+use Rattle.replay.proofs.sound.Reads as reads
+use Rattle.replay.proofs.sound.Lts as lts
+
+returns : tie.Need-returns
+returns c = record { soundIf = λ e. absurd (false≢true e); onlyIf = λ s. absurd (omega (arith, s .withinLine)) }
+
+returns-2 : tie.Need-returns-2
+returns-2 c = record { soundIf = λ e. absurd (false≢true e); onlyIf = λ s. absurd (omega (arith, s .soundRun .numbered)) }
+
+returns-3 : tie.Need-returns-3
+returns-3 c =
+    let known = c .before .before .before .before .before .before .args in
+    record {
+      soundIf =
+          λ e.
+          record {
+            soundRun = record { numbered = omega arith; withinR = leb-true (known .s .run .filled) 128 e };
+            withinLine = omega arith;
+          };
+      onlyIf = λ s. le-leb (known .s .run .filled) 128 (s .soundRun .withinR);
+    }
+
+pub sound-spec : {M : Type 1} → statement M
+sound-spec = tie.close (tie.spec returns returns-2 returns-3)

@@ -1,0 +1,162 @@
+// What a run prints.
+ghost use mathlib.Core.Path.{_≡_};
+ghost use Prim.Native.Nat.{_+_, _≤_};
+ghost use lib.ListN.{length, take};
+ghost use Rattle.unit.specs.Refusals.{number};
+ghost use Rattle.replay.specs.Event.{refusedText, malformedText};
+ghost use Rattle.replay.specs.Feeding.{fedTo, ended};
+ghost use Rattle.replay.specs.Session.{Closes, SoundRun};
+ghost use Rattle.replay.specs.Written.{Puts};
+ghost use Rattle.replay.specs.Event.{bytesText, notesText};
+ghost use Rattle.replay.specs.Session.{answeredText, settledText, elapsedText, passedText, repliesWithin};
+ghost use mathlib.Core.List.{_++_};
+use crate::Progress;
+use crate::Run;
+use crate::text;
+use unit::Refusal;
+use unit::Reply;
+
+// The number of a refusal in the paper's list.
+pub fn code(refusal: Refusal) -> u8
+    ensures { λ r. ⌜ r ≡ number refusal ⌝ }
+{
+    match refusal {
+        Refusal::NotAuthenticated => 0x80,
+        Refusal::InvalidValue => 0x81,
+        Refusal::NoConsent => 0x82,
+        Refusal::OutOfRange => 1,
+        Refusal::NotWellFormed => 2,
+        Refusal::WrongNonce => 3,
+        Refusal::WrongAccountKey => 4,
+        Refusal::NoFrame => 5,
+        Refusal::NoRoom => 6,
+    }
+}
+
+pub fn refused(out: &mut [u8], at: usize, refusal: Refusal) -> usize
+    requires { ⌜ at + 256 ≤ length (now out) ⌝ }
+    ensures { λ r. ⌜ Puts (refusedText (number refusal)) at (now (out .entry)) r (now (out .exit)) ⌝ }
+{
+    let next = text::put(out, at, b"answer=refused\ncode=");
+    let one = [code(refusal)];
+    let end = text::hex(out, next, &one);
+    text::put(out, end, b"\n")
+}
+
+pub fn malformed(out: &mut [u8], at: usize, number: u32) -> usize
+    requires { ⌜ at + 64 ≤ length (now out) ⌝ }
+    ensures { λ r. ⌜ Puts (malformedText number) at (now (out .entry)) r (now (out .exit)) ⌝ }
+{
+    let next = text::put(out, at, b"answer=malformed\nline=");
+    let end = text::decimal(out, next, number);
+    text::put(out, end, b"\n")
+}
+
+// A run that ends with a malformed line.
+pub fn breaks(run: Run, out: &mut [u8], at: usize) -> Progress
+    requires { ⌜ (at + 256 ≤ length (now out)) × SoundRun run ⌝ }
+    ensures { λ r. ⌜ Closes (fedTo ended (malformedText (run .number))) at (now (out .entry)) (r .run) (r .written) (now (out .exit)) ⌝ }
+{
+    let number = run.number;
+    let written = malformed(out, at, number);
+    let mut after = run;
+    after.ended = true;
+    Progress {
+        run: after,
+        written,
+    }
+}
+
+// bytes= with the bytes, where there are any.
+fn bytes(out: &mut [u8], at: usize, answer: &[u8]) -> usize
+    requires { ⌜ (length (now answer) ≤ 42) × (at + 128 ≤ length (now out)) ⌝ }
+    ensures { λ r. ⌜ Puts (bytesText (now (answer .entry))) at (now (out .entry)) r (now (out .exit)) ⌝ }
+{
+    if answer.len() == 0 {
+        return at;
+    }
+    let next = text::put(out, at, b"bytes=");
+    let end = text::hex(out, next, answer);
+    text::put(out, end, b"\n")
+}
+
+// A success: its title, and the answer bytes that were written.
+fn success(out: &mut [u8], at: usize, title: &[u8], answer: &[u8], count: usize) -> usize
+    requires { ⌜ (length (now title) ≤ 32) × ((length (now answer) ≡ 42) × ((count ≤ 42) × (at + 256 ≤ length (now out)))) ⌝ }
+    ensures { λ r. ⌜ Puts (now (title .entry) ++ bytesText (take count (now (answer .entry)))) at (now (out .entry)) r (now (out .exit)) ⌝ }
+{
+    let next = text::put(out, at, title);
+    bytes(out, next, &answer[..count])
+}
+
+// The end of an event with answer bytes.
+pub fn answered(out: &mut [u8], at: usize, reply: Reply, title: &[u8], answer: &[u8]) -> usize
+    requires { ⌜ (length (now title) ≤ 32) × ((length (now answer) ≡ 42) × ((repliesWithin reply 42) × (at + 256 ≤ length (now out)))) ⌝ }
+    ensures { λ r. ⌜ Puts (answeredText (now (title .entry)) reply (now (answer .entry))) at (now (out .entry)) r (now (out .exit)) ⌝ }
+{
+    match reply {
+        Reply::Done(n) => success(out, at, title, answer, n),
+        Reply::Refused(refusal) => refused(out, at, refusal),
+    }
+}
+
+// The end of an event without answer bytes.
+pub fn settled(out: &mut [u8], at: usize, reply: Reply, title: &[u8]) -> usize
+    requires { ⌜ (length (now title) ≤ 32) × (at + 256 ≤ length (now out)) ⌝ }
+    ensures { λ r. ⌜ Puts (settledText (now (title .entry)) reply) at (now (out .entry)) r (now (out .exit)) ⌝ }
+{
+    match reply {
+        Reply::Done(_) => text::put(out, at, title),
+        Reply::Refused(refusal) => refused(out, at, refusal),
+    }
+}
+
+// notes= 0, or 1 with the tenth at which a ring ended and its notice.
+fn notes(out: &mut [u8], at: usize, tenth: u32, answer: &[u8]) -> usize
+    requires { ⌜ (length (now answer) ≤ 42) × (at + 160 ≤ length (now out)) ⌝ }
+    ensures { λ r. ⌜ Puts (notesText tenth (now (answer .entry))) at (now (out .entry)) r (now (out .exit)) ⌝ }
+{
+    if answer.len() == 0 {
+        return text::put(out, at, b"notes=0\n");
+    }
+    let next = text::put(out, at, b"notes=1\nat=");
+    let end = text::decimal(out, next, tenth);
+    let behind = text::put(out, end, b"\n");
+    bytes(out, behind, answer)
+}
+
+// The end of time that passed: the notes and the clock's seconds.
+fn elapsed(
+    out: &mut [u8],
+    at: usize,
+    tenth: u32,
+    seconds: u32,
+    answer: &[u8],
+    count: usize,
+) -> usize
+    requires { ⌜ (length (now answer) ≡ 42) × ((count ≤ 42) × (at + 256 ≤ length (now out))) ⌝ }
+    ensures { λ r. ⌜ Puts (elapsedText tenth seconds (take count (now (answer .entry)))) at (now (out .entry)) r (now (out .exit)) ⌝ }
+{
+    let next = text::put(out, at, b"answer=elapsed\n");
+    let noted = notes(out, next, tenth, &answer[..count]);
+    let clock = text::put(out, noted, b"clock=");
+    let end = text::decimal(out, clock, seconds);
+    text::put(out, end, b"\n")
+}
+
+pub fn passed(
+    out: &mut [u8],
+    at: usize,
+    reply: Reply,
+    tenth: u32,
+    seconds: u32,
+    answer: &[u8],
+) -> usize
+    requires { ⌜ (length (now answer) ≡ 42) × ((repliesWithin reply 42) × (at + 256 ≤ length (now out))) ⌝ }
+    ensures { λ r. ⌜ Puts (passedText tenth seconds reply (now (answer .entry))) at (now (out .entry)) r (now (out .exit)) ⌝ }
+{
+    match reply {
+        Reply::Done(n) => elapsed(out, at, tenth, seconds, answer, n),
+        Reply::Refused(refusal) => refused(out, at, refusal),
+    }
+}
