@@ -1,0 +1,4 @@
+pub mod Layout
+pub mod Groups
+pub mod Fitting
+pub mod Exported

@@ -1,0 +1,154 @@
+//! A host in Rust: provisions a unit, rings it, lets the ring time out, stops one with the button, recovers the key, and saves and reloads
+//! the record. It plays the phone too, which makes the requests with the library's own primitives.
+use std::fs;
+
+const RECORD_BYTES: usize = 214;
+const ANSWER_ROOM: usize = 42;
+const IDENTITY_HELD_AT: usize = 118;
+const SOUND_AT: usize = 151;
+
+// The declarations of include/tag.h: a slice passes as its pointer and its length.
+extern "C" {
+    fn tag_new(record: *mut u8, n: usize, power: i32, components: u32, selectable: u32) -> u64;
+    fn tag_read(record: *mut u8, n: usize, nonce: *const u8, m: usize, answer: *mut u8, room: usize) -> u64;
+    fn tag_write(record: *mut u8, n: usize, request: *const u8, m: usize, answer: *mut u8, room: usize) -> u64;
+    fn tag_button(record: *mut u8, n: usize, answer: *mut u8, room: usize) -> u64;
+    fn tag_elapsed(record: *mut u8, n: usize, tenths: u32, answer: *mut u8, room: usize) -> u64;
+    fn tag_account_key(record: *mut u8, n: usize, key: *const u8, m: usize) -> u64;
+    fn tag_lend_identifier(record: *mut u8, n: usize, r: *const u8, m: usize, id: *const u8, k: usize) -> u64;
+    fn tag_frame(record: *mut u8, n: usize, answer: *mut u8, room: usize) -> u64;
+    fn tag_sha256(message: *const u8, n: usize, answer: *mut u8, room: usize) -> u64;
+    fn tag_hmac_sha256(key: *const u8, n: usize, message: *const u8, m: usize, answer: *mut u8, room: usize) -> u64;
+    fn tag_aes128_encrypt(key: *const u8, n: usize, block: *const u8, m: usize, answer: *mut u8, room: usize) -> u64;
+    fn tag_aes128_decrypt(key: *const u8, n: usize, block: *const u8, m: usize, answer: *mut u8, room: usize) -> u64;
+}
+
+const ACCOUNT_KEY: [u8; 16] = [4, 1, 2, 3, 4, 5, 6, 7, 8, 9, 10, 11, 12, 13, 14, 15];
+const IDENTITY: [u8; 32] = [7, 7, 7, 7, 9, 9, 9, 9, 1, 2, 3, 4, 5, 6, 7, 8, 8, 7, 6, 5, 4, 3, 2, 1, 9, 9, 9, 9, 7, 7, 7, 7];
+
+/// What a call gave: the bytes written and the ending tenth, or a refusal.
+struct Given {
+    bytes: usize,
+    ended: u64,
+}
+
+fn given(number: u64) -> Result<Given, u64> {
+    match number % 65536 {
+        code @ 256.. => Err(code - 256),
+        bytes => Ok(Given { bytes: bytes as usize, ended: number / 65536 }),
+    }
+}
+
+struct Host {
+    record: [u8; RECORD_BYTES],
+    answer: [u8; ANSWER_ROOM],
+    nonce: u64,
+}
+
+impl Host {
+    /// A call that takes the record alone.
+    fn settle(&mut self, call: impl FnOnce(*mut u8, usize) -> u64) -> Result<Given, u64> {
+        given(call(self.record.as_mut_ptr(), RECORD_BYTES))
+    }
+
+    /// A call that takes the record and answer bytes.
+    fn ask(&mut self, call: impl FnOnce(*mut u8, usize, *mut u8, usize) -> u64) -> Result<Given, u64> {
+        given(call(self.record.as_mut_ptr(), RECORD_BYTES, self.answer.as_mut_ptr(), ANSWER_ROOM))
+    }
+
+    /// The phone: a request with its tag under a key, on a nonce just issued.
+    fn request(&mut self, id: u8, key: &[u8], data: &[u8]) -> Result<Given, u64> {
+        self.nonce += 1; // A real host takes random bytes: these only differ from each other.
+        let nonce = self.nonce.to_be_bytes();
+        self.ask(|u, n, a, room| unsafe { tag_read(u, n, nonce.as_ptr(), 8, a, room) })?;
+        let size = 8 + data.len() as u8;
+        let covered = [&[1], &nonce[..], &[id, size], data].concat();
+        let mut tag = [0; 32];
+        given(unsafe { tag_hmac_sha256(key.as_ptr(), key.len(), covered.as_ptr(), covered.len(), tag.as_mut_ptr(), 32) })?;
+        let write = [&[id, size], &tag[..8], data].concat();
+        self.ask(|u, n, a, room| unsafe { tag_write(u, n, write.as_ptr(), write.len(), a, room) })
+    }
+
+    fn ring(&mut self, tenths: u16) -> Result<(), u64> {
+        let [high, low] = tenths.to_be_bytes();
+        self.request(0x05, &derived(2)?, &[0xFF, high, low, 2])?;
+        let left = u16::from_be_bytes([self.answer[12], self.answer[13]]);
+        println!("ring accepted: status {}, mask 0x{:02x}, {left} tenths left", self.answer[10], self.answer[11]);
+        Ok(())
+    }
+}
+
+/// The recovery (1), ring (2) or protection (3) key.
+fn derived(which: u8) -> Result<[u8; 8], u64> {
+    let message = [&IDENTITY[..], &[which]].concat();
+    let mut digest = [0; 32];
+    given(unsafe { tag_sha256(message.as_ptr(), message.len(), digest.as_mut_ptr(), 32) })?;
+    Ok(digest[..8].try_into().unwrap())
+}
+
+type Cipher = unsafe extern "C" fn(*const u8, usize, *const u8, usize, *mut u8, usize) -> u64;
+
+fn blocks(cipher: Cipher, from: &[u8]) -> Result<[u8; 32], u64> {
+    let mut to = [0; 32];
+    for half in [0, 16] {
+        given(unsafe { cipher(ACCOUNT_KEY.as_ptr(), 16, from[half..].as_ptr(), 16, to[half..].as_mut_ptr(), 16) })?;
+    }
+    Ok(to)
+}
+
+fn provision(host: &mut Host) -> Result<(), u64> {
+    host.settle(|u, n| unsafe { tag_new(u, n, -20, 2, 1) })?;
+    host.settle(|u, n| unsafe { tag_account_key(u, n, ACCOUNT_KEY.as_ptr(), 16) })?;
+    host.request(0x01, &ACCOUNT_KEY, &[])?;
+    println!("state read: bits 0x{:02x}, so the key used is the owner and no identity key is held", host.answer[10]);
+    host.request(0x02, &ACCOUNT_KEY, &blocks(tag_aes128_encrypt, &IDENTITY)?)?;
+    println!("provisioned: identity key {}", if host.record[IDENTITY_HELD_AT] == 1 { "held" } else { "missing" });
+    Ok(())
+}
+
+fn recover(host: &mut Host) -> Result<(), u64> {
+    let key = derived(1)?;
+    if let Err(refusal) = host.request(0x04, &key, &[]) {
+        println!("recovery without consent: refused with 0x{refusal:02x}");
+    }
+    host.ask(|u, n, a, room| unsafe { tag_button(u, n, a, room) })?;
+    host.request(0x04, &key, &[])?;
+    let same = blocks(tag_aes128_decrypt, &host.answer[10..])? == IDENTITY;
+    println!("recovery after a press of the button: the identity key is {}", if same { "the same" } else { "another" });
+    Ok(())
+}
+
+fn save_and_reload(host: &mut Host, path: &str) -> Result<(), u64> {
+    let (r, id) = ([1u8; 20], [2u8; 20]);
+    fs::write(path, host.record).expect("the record is saved");
+    host.record.fill(0xFF);
+    if let Err(refusal) = host.ask(|u, n, a, room| unsafe { tag_frame(u, n, a, room) }) {
+        println!("after a reboot, with flash that holds no record: the frame is refused with {refusal}");
+    }
+    host.record.copy_from_slice(&fs::read(path).expect("the record is read"));
+    host.settle(|u, n| unsafe { tag_lend_identifier(u, n, r.as_ptr(), 20, id.as_ptr(), 20) })?;
+    let frame = host.ask(|u, n, a, room| unsafe { tag_frame(u, n, a, room) })?;
+    println!("record reloaded: a frame of {} bytes", frame.bytes);
+    Ok(())
+}
+
+fn session(path: &str) -> Result<(), u64> {
+    let mut host = Host { record: [0; RECORD_BYTES], answer: [0; ANSWER_ROOM], nonce: 0 };
+    provision(&mut host)?;
+    host.ring(50)?;
+    let passed = host.ask(|u, n, a, room| unsafe { tag_elapsed(u, n, 80, a, room) })?;
+    println!("80 tenths later: notice of {} bytes, status {}, the ring ended at tenth {}", passed.bytes, host.answer[10], passed.ended);
+    host.ring(600)?;
+    host.ask(|u, n, a, room| unsafe { tag_button(u, n, a, room) })?;
+    println!("button: status {}, {}", host.answer[10], if host.record[SOUND_AT] == 1 { "ringing" } else { "silent" });
+    recover(&mut host)?;
+    save_and_reload(&mut host, path)
+}
+
+fn main() {
+    let path = std::env::args().nth(1).unwrap_or_else(|| "unit.record".into());
+    if let Err(refusal) = session(&path) {
+        println!("refused with 0x{refusal:02x}");
+        std::process::exit(1);
+    }
+}
