@@ -1,0 +1,9 @@
+//! An independent reference program for the tag core, written from the papers alone.
+//! It is plain and slow on purpose; see compare/README.md.
+
+pub mod primitives;
+pub mod replay;
+pub mod tag;
+
+#[cfg(test)]
+mod tests;

@@ -1,0 +1,161 @@
+//! The record: each line of "well formed", and refusal 2 from every call.
+
+use super::*;
+use crate::tag::{Protection, Sound};
+
+fn full() -> Unit {
+    let mut unit = provisioned(2, 1);
+    unit.has_nonce = true;
+    unit.nonce = [5; 8];
+    unit.live = true;
+    unit.sound = Sound::Ringing { mask: 2, volume: 3, left: 6_000 };
+    unit.ring_nonce = [4; 8];
+    unit.protection = Protection::On { skip: true };
+    unit.consent = 600;
+    unit.battery = 3;
+    unit.has_identifier = true;
+    unit.r = [1; 20];
+    unit.identifier = [2; 20];
+    unit.window = 2_048;
+    assert!(unit.well_formed());
+    unit
+}
+
+fn broken(change: impl Fn(&mut Unit), of: &Unit) {
+    let mut unit = of.clone();
+    change(&mut unit);
+    assert!(!unit.well_formed(), "{unit:?}");
+    let before = unit.clone();
+    let mut answer = [0xa5; 42];
+    assert_eq!(tag::read(&mut unit, &[], &mut answer), Err(2));
+    assert_eq!(tag::write(&mut unit, &[], &mut answer), Err(2));
+    assert_eq!(tag::write(&mut unit, &[0x01, 8, 0, 0, 0, 0, 0, 0, 0, 0], &mut answer), Err(2));
+    assert_eq!(tag::button(&mut unit, &mut answer), Err(2));
+    assert_eq!(tag::elapsed(&mut unit, 0, &mut answer), Err(2));
+    assert_eq!(tag::elapsed(&mut unit, u32::MAX, &mut answer), Err(2));
+    assert_eq!(tag::frame(&mut unit, &mut answer), Err(2));
+    assert_eq!(tag::pairing(&mut unit, true), Err(2));
+    assert_eq!(tag::battery(&mut unit, 9), Err(2));
+    assert_eq!(tag::account_key(&mut unit, &[]), Err(2));
+    assert_eq!(tag::lent_identifier(&mut unit, &[], &[]), Err(2));
+    assert_eq!(answer, [0xa5; 42]);
+    assert_eq!(unit, before);
+    // Room comes before the record.
+    assert_eq!(tag::read(&mut unit, &[], &mut answer[..41]), Err(6));
+    assert_eq!(tag::write(&mut unit, &[], &mut []), Err(6));
+    assert_eq!(tag::button(&mut unit, &mut answer[..41]), Err(6));
+    assert_eq!(tag::elapsed(&mut unit, 1, &mut answer[..41]), Err(6));
+    assert_eq!(tag::frame(&mut unit, &mut answer[..41]), Err(6));
+    assert_eq!(unit, before);
+}
+
+fn right(change: impl Fn(&mut Unit), of: &Unit) {
+    let mut unit = of.clone();
+    change(&mut unit);
+    assert!(unit.well_formed(), "{unit:?}");
+}
+
+#[test]
+fn settings_and_clock() {
+    let fresh = tag::new_unit(0, 0, 0).unwrap();
+    for unit in [&fresh, &full()] {
+        broken(|u| u.power = -101, unit);
+        broken(|u| u.power = 21, unit);
+        broken(|u| u.power = i32::MIN, unit);
+        broken(|u| u.components = 4, unit);
+        broken(|u| u.components = 256, unit);
+        broken(|u| u.selectable = 2, unit);
+        broken(|u| u.tenth = 10, unit);
+        broken(|u| u.tenth = u32::MAX, unit);
+        right(|u| u.power = -100, unit);
+        right(|u| u.power = 20, unit);
+        right(|u| u.tenth = 9, unit);
+        right(|u| u.seconds = u32::MAX, unit);
+    }
+}
+
+#[test]
+fn keys_and_owner() {
+    let unit = full();
+    broken(|u| u.key_count = 6, &unit);
+    broken(|u| u.key_count = 200, &unit);
+    broken(|u| u.key_count = u64::MAX, &unit);
+    broken(|u| u.keys[1] = u.keys[0], &unit);
+    broken(|u| u.keys[4][15] = 1, &unit);
+    broken(|u| u.key_count = 1, &unit);
+    broken(|u| u.key_count = 4, &unit);
+    broken(|u| u.key_count = 0, &unit);
+    right(|u| u.key_count = 3, &unit);
+    broken(|u| u.owner = 2, &unit);
+    broken(|u| u.owner = 5, &unit);
+    broken(|u| u.owner = 1 << 63, &unit);
+    broken(|u| u.has_owner = false, &unit);
+    right(|u| u.owner = 1, &unit);
+    let fresh = tag::new_unit(0, 0, 0).unwrap();
+    broken(|u| u.has_owner = true, &fresh);
+    broken(|u| u.owner = 1, &fresh);
+    broken(|u| u.owner = 1 << 63, &fresh);
+    broken(|u| u.keys[0][0] = 1, &fresh);
+    right(|u| u.key_count = 1, &fresh);
+    right(|u| { u.key_count = 1; u.has_owner = true }, &fresh);
+    right(|u| { u.key_count = 1; u.has_owner = true; u.has_identity = true }, &fresh);
+    broken(|u| u.has_identity = true, &fresh);
+    broken(|u| u.identity[31] = 1, &fresh);
+    broken(|u| u.key_count = 2, &fresh);
+}
+
+#[test]
+fn nonces_and_sound() {
+    let fresh = tag::new_unit(0, 3, 0).unwrap();
+    broken(|u| u.nonce[7] = 1, &fresh);
+    broken(|u| u.live = true, &fresh);
+    right(|u| u.has_nonce = true, &fresh);
+    right(|u| { u.has_nonce = true; u.live = true }, &fresh);
+    broken(|u| u.ring_nonce[0] = 1, &fresh);
+    broken(|u| u.sound = Sound::Ringing { mask: 1, volume: 0, left: 1 }, &fresh);
+    let unit = full();
+    broken(|u| u.sound = Sound::Silent, &unit);
+    right(|u| { u.sound = Sound::Silent; u.ring_nonce = [0; 8] }, &unit);
+    for mask in [0, 4, 5, 0xff, 0x100, 0x101, u32::MAX] {
+        broken(|u| u.sound = Sound::Ringing { mask, volume: 0, left: 1 }, &unit);
+    }
+    for volume in [4, 256, u32::MAX] {
+        broken(|u| u.sound = Sound::Ringing { mask: 1, volume, left: 1 }, &unit);
+    }
+    for left in [0, 6_001, 65_536, u32::MAX] {
+        broken(|u| u.sound = Sound::Ringing { mask: 1, volume: 0, left }, &unit);
+    }
+    broken(|u| u.selectable = 0, &unit);
+    right(|u| { u.selectable = 0; u.sound = Sound::Ringing { mask: 3, volume: 0, left: 1 } }, &unit);
+    // Not asked: a last nonce while ringing, nor any tie between the two nonces.
+    right(|u| { u.has_nonce = false; u.nonce = [0; 8]; u.live = false }, &unit);
+    right(|u| u.ring_nonce = [0; 8], &unit);
+    right(|u| u.ring_nonce = u.nonce, &unit);
+}
+
+#[test]
+fn the_rest() {
+    let fresh = tag::new_unit(0, 3, 0).unwrap();
+    broken(|u| u.protection = Protection::On { skip: false }, &fresh);
+    broken(|u| u.protection = Protection::On { skip: true }, &fresh);
+    for unit in [&fresh, &full()] {
+        broken(|u| u.consent = 601, unit);
+        broken(|u| u.consent = u32::MAX, unit);
+        broken(|u| u.battery = 4, unit);
+        broken(|u| u.battery = 256, unit);
+        right(|u| u.consent = 600, unit);
+        right(|u| u.pairing = true, unit);
+    }
+    broken(|u| u.r[0] = 1, &fresh);
+    broken(|u| u.identifier[19] = 1, &fresh);
+    broken(|u| u.window = 1_024, &fresh);
+    broken(|u| u.has_identifier = true, &fresh);
+    let unit = full();
+    broken(|u| u.window = 1, &unit);
+    broken(|u| u.window = 1_023, &unit);
+    broken(|u| u.window = 512, &unit);
+    broken(|u| u.has_identifier = false, &unit);
+    right(|u| u.window = 0, &unit);
+    right(|u| u.window = 0xffff_fc00, &unit);
+    right(|u| { u.r = [0; 20]; u.identifier = [0; 20] }, &unit);
+}

@@ -1,0 +1,239 @@
+//! Refusals, their order, and what each call leaves behind.
+
+use super::*;
+use crate::primitives::{aes128_decrypt, aes128_encrypt};
+use crate::tag::{Protection, Sound};
+
+#[test]
+fn nonces_lent_to_read() {
+    let mut unit = tag::new_unit(0, 0, 0).unwrap();
+    let mut answer = [0xa5; 42];
+    assert_eq!(tag::read(&mut unit, &[0; 8], &mut answer), Ok(9));
+    assert_eq!(answer[..10], [1, 0, 0, 0, 0, 0, 0, 0, 0, 0xa5]);
+    assert_eq!(tag::read(&mut unit, &[0; 8], &mut answer), Err(3));
+    assert!(unit.live);
+    for wrong in [0, 7, 9] {
+        assert_eq!(tag::read(&mut unit, &vec![1; wrong], &mut answer), Err(3));
+    }
+    assert!(unit.live);
+    assert_eq!(write(&mut unit, &[]), Err(0x81));
+    assert_eq!(tag::read(&mut unit, &[0; 8], &mut answer), Err(3));
+    assert!(!unit.live);
+    assert_eq!(tag::read(&mut unit, &[1; 8], &mut answer), Ok(9));
+    assert_eq!(tag::read(&mut unit, &[0; 8], &mut answer), Ok(9));
+}
+
+#[test]
+fn shapes() {
+    let lengths = |id: u8| -> &[u8] {
+        match id {
+            0x00 | 0x01 | 0x04 | 0x06 => &[8],
+            0x02 => &[40, 48],
+            0x03 | 0x08 => &[16],
+            0x05 => &[12],
+            0x07 => &[8, 9],
+            _ => &[],
+        }
+    };
+    for id in 0..=255u8 {
+        for length in 0..=255u8 {
+            for extra in [-1i32, 0, 1] {
+                let mut unit = provisioned(1, 1);
+                tag::read(&mut unit, &[1; 8], &mut [0; 42]).unwrap();
+                let mut data = vec![id, length];
+                data.resize((length as i32 + 2 + extra) as usize, 0);
+                if !data.is_empty() {
+                    data[0] = id;
+                }
+                let expected = if lengths(id).contains(&length) && extra == 0 { 0x80 } else { 0x81 };
+                assert_eq!(write(&mut unit, &data), Err(expected), "{id} {length} {extra}");
+            }
+        }
+    }
+    // The shape is judged before the live nonce.
+    let mut unit = provisioned(1, 1);
+    assert_eq!(write(&mut unit, &[0x09]), Err(0x81));
+    assert_eq!(write(&mut unit, &[0x01, 8, 0, 0, 0, 0, 0, 0, 0, 0]), Err(0x80));
+    assert_eq!(write(&mut unit, &vec![0; 100_000]), Err(0x81));
+}
+
+#[test]
+fn without_an_identity_key() {
+    let mut unit = tag::new_unit(0, 3, 1).unwrap();
+    tag::account_key(&mut unit, &OWNER_KEY).unwrap();
+    exchange(&mut unit, [1; 8], &OWNER_KEY, 0x01, &[]).unwrap();
+    let zero = [0u8; 32];
+    let cases: [(u8, Vec<u8>, Vec<u8>); 6] = [
+        (0x03, OWNER_KEY.to_vec(), proof(&zero, &[9; 8])),
+        (0x04, sub_key(&zero, 1).to_vec(), vec![]),
+        (0x05, sub_key(&zero, 2).to_vec(), vec![0xff, 0, 0, 9]),
+        (0x06, sub_key(&zero, 2).to_vec(), vec![]),
+        (0x07, sub_key(&zero, 3).to_vec(), vec![7]),
+        (0x08, sub_key(&zero, 3).to_vec(), proof(&zero, &[9; 8])),
+    ];
+    for (id, key, data) in cases {
+        let mut copy = unit.clone();
+        assert_eq!(exchange(&mut copy, [9; 8], &key, id, &data), Err(0x80), "{id}");
+    }
+}
+
+#[test]
+fn account_keys() {
+    let mut unit = tag::new_unit(0, 0, 0).unwrap();
+    for wrong in [0, 15, 17, 125] {
+        assert_eq!(tag::account_key(&mut unit, &vec![1; wrong]), Err(4));
+    }
+    for n in 0..5u8 {
+        assert_eq!(tag::account_key(&mut unit, &[n; 16]), Ok(()));
+        assert_eq!(unit.key_count, n as u64 + 1);
+    }
+    let before = unit.clone();
+    assert_eq!(tag::account_key(&mut unit, &[5; 16]), Err(4));
+    for n in 0..5u8 {
+        assert_eq!(tag::account_key(&mut unit, &[n; 16]), Ok(()));
+    }
+    assert_eq!(unit, before);
+}
+
+#[test]
+fn only_0x01_makes_an_owner() {
+    let mut unit = tag::new_unit(0, 0, 0).unwrap();
+    tag::account_key(&mut unit, &OTHER_KEY).unwrap();
+    tag::account_key(&mut unit, &OWNER_KEY).unwrap();
+    assert_eq!(exchange(&mut unit, [1; 8], &OWNER_KEY, 0x02, &[0; 32]), Err(0x80));
+    assert!(exchange(&mut unit, [2; 8], &OWNER_KEY, 0x00, &[]).is_ok());
+    assert!(!unit.has_owner);
+    let answer = exchange(&mut unit, [3; 8], &OWNER_KEY, 0x01, &[]).unwrap();
+    assert_eq!(answer, tag::make_answer(&OWNER_KEY, &[3; 8], 0x01, &[0x02]));
+    assert_eq!(unit.owner, 1);
+    let answer = exchange(&mut unit, [4; 8], &OTHER_KEY, 0x01, &[]).unwrap();
+    assert_eq!(answer[10..], [0x00]);
+    assert_eq!(unit.owner, 1);
+    assert_eq!(exchange(&mut unit, [5; 8], &OTHER_KEY, 0x02, &[0; 32]), Err(0x80));
+    assert!(exchange(&mut unit, [6; 8], &OWNER_KEY, 0x02, &[0; 32]).is_ok());
+    assert_eq!(unit.identity[..16], aes128_decrypt(&OWNER_KEY, &[0; 16]));
+    assert_eq!(unit.identity[16..], aes128_decrypt(&OWNER_KEY, &[0; 16]));
+    assert_eq!(exchange(&mut unit, [7; 8], &OTHER_KEY, 0x01, &[]).unwrap()[10..], [0x01]);
+    assert_eq!(exchange(&mut unit, [8; 8], &OWNER_KEY, 0x01, &[]).unwrap()[10..], [0x03]);
+}
+
+#[test]
+fn new_identity_key_and_what_stays() {
+    let mut unit = provisioned(3, 1);
+    exchange(&mut unit, [1; 8], &sub_key(&IDENTITY, 3), 0x07, &[1]).unwrap();
+    exchange(&mut unit, [2; 8], &sub_key(&IDENTITY, 2), 0x05, &[0xff, 0, 9, 1]).unwrap();
+    tag::lent_identifier(&mut unit, &[1; 20], &[2; 20]).unwrap();
+    tag::pairing(&mut unit, true).unwrap();
+    tag::battery(&mut unit, 2).unwrap();
+    unit.consent = 77;
+    let mut data = Vec::new();
+    data.extend_from_slice(&aes128_encrypt(&OWNER_KEY, IDENTITY[..16].try_into().unwrap()));
+    data.extend_from_slice(&aes128_encrypt(&OWNER_KEY, IDENTITY[16..].try_into().unwrap()));
+    data.extend_from_slice(&proof(&IDENTITY, &[3; 8]));
+    let mut expected = unit.clone();
+    let answer = exchange(&mut unit, [3; 8], &OWNER_KEY, 0x02, &data).unwrap();
+    assert_eq!(answer, tag::make_answer(&OWNER_KEY, &[3; 8], 0x02, &[]));
+    // The same key again: sound ends and the identifier is dropped all the same.
+    expected.nonce = [3; 8];
+    expected.sound = Sound::Silent;
+    expected.ring_nonce = [0; 8];
+    expected.has_identifier = false;
+    expected.r = [0; 20];
+    expected.identifier = [0; 20];
+    assert_eq!(unit, expected);
+    assert_eq!(tag::frame(&mut unit, &mut [0; 42]), Err(5));
+}
+
+#[test]
+fn clearing_and_what_remains() {
+    let mut unit = provisioned(3, 1);
+    unit.seconds = 5_000;
+    unit.tenth = 7;
+    unit.consent = 77;
+    exchange(&mut unit, [1; 8], &sub_key(&IDENTITY, 3), 0x07, &[1]).unwrap();
+    exchange(&mut unit, [2; 8], &sub_key(&IDENTITY, 2), 0x05, &[0xff, 0, 9, 1]).unwrap();
+    tag::lent_identifier(&mut unit, &[1; 20], &[2; 20]).unwrap();
+    tag::pairing(&mut unit, true).unwrap();
+    tag::battery(&mut unit, 2).unwrap();
+    assert_eq!(exchange(&mut unit, [3; 8], &OWNER_KEY, 0x03, &[0; 8]), Err(0x80));
+    assert_eq!(exchange(&mut unit, [4; 8], &OTHER_KEY, 0x03, &proof(&IDENTITY, &[4; 8])), Err(0x80));
+    let answer = exchange(&mut unit, [5; 8], &OWNER_KEY, 0x03, &proof(&IDENTITY, &[5; 8])).unwrap();
+    assert_eq!(answer, tag::make_answer(&OWNER_KEY, &[5; 8], 0x03, &[]));
+    let mut expected = tag::new_unit(-20, 3, 1).unwrap();
+    expected.seconds = 5_000;
+    expected.tenth = 7;
+    expected.has_nonce = true;
+    expected.nonce = [5; 8];
+    expected.battery = 2;
+    expected.pairing = true;
+    assert_eq!(unit, expected);
+    assert_eq!(tag::read(&mut unit, &[5; 8], &mut [0; 42]), Err(3));
+}
+
+#[test]
+fn protection_on_and_off() {
+    let mut unit = provisioned(1, 1);
+    let key = sub_key(&IDENTITY, 3);
+    assert_eq!(exchange(&mut unit, [1; 8], &key, 0x07, &[2]), Err(0x81));
+    assert_eq!(exchange(&mut unit, [2; 8], b"wrong", 0x07, &[2]), Err(0x80));
+    assert_eq!(unit.protection, Protection::Off);
+    for (n, data, skip) in [(3, &[1u8][..], true), (4, &[], false), (5, &[1], true), (6, &[0], false)] {
+        let answer = exchange(&mut unit, [n; 8], &key, 0x07, data).unwrap();
+        assert_eq!(answer, tag::make_answer(&key, &[n; 8], 0x07, &[]));
+        assert_eq!(unit.protection, Protection::On { skip });
+    }
+    assert_eq!(exchange(&mut unit, [7; 8], &key, 0x08, &proof(&IDENTITY, &[6; 8])), Err(0x80));
+    for n in [8, 9] {
+        let answer = exchange(&mut unit, [n; 8], &key, 0x08, &proof(&IDENTITY, &[n; 8])).unwrap();
+        assert_eq!(answer, tag::make_answer(&key, &[n; 8], 0x08, &[]));
+        assert_eq!(unit.protection, Protection::Off);
+    }
+}
+
+#[test]
+fn lent_identifiers() {
+    let mut unit = tag::new_unit(0, 0, 0).unwrap();
+    assert_eq!(tag::lent_identifier(&mut unit, &[0; 19], &[0; 20]), Err(1));
+    assert_eq!(tag::lent_identifier(&mut unit, &[0; 20], &[0; 21]), Err(1));
+    assert_eq!(tag::lent_identifier(&mut unit, &[0; 20], &[0; 20]), Err(5));
+    assert_eq!(tag::frame(&mut unit, &mut [0; 42]), Err(5));
+    assert_eq!(tag::battery(&mut unit, 4), Err(1));
+    assert_eq!(tag::battery(&mut unit, 256), Err(1));
+    let mut unit = provisioned(0, 0);
+    assert_eq!(tag::frame(&mut unit, &mut [0; 42]), Err(5));
+    unit.seconds = 1_023;
+    unit.tenth = 8;
+    tag::lent_identifier(&mut unit, &[0; 20], &[6; 20]).unwrap();
+    assert_eq!(unit.window, 0);
+    let status = exchange(&mut unit, [1; 8], &OTHER_KEY, 0x01, &[]).unwrap();
+    assert_eq!(status[1], 29);
+    assert_eq!(status[10], 0x01);
+    assert_eq!(status[11..], [6; 20]);
+    assert_eq!(tag::frame(&mut unit, &mut [0; 42]), Ok(28));
+    tag::elapsed(&mut unit, 1, &mut [0; 42]).unwrap();
+    assert_eq!(tag::frame(&mut unit, &mut [0; 42]), Ok(28));
+    tag::elapsed(&mut unit, 1, &mut [0; 42]).unwrap();
+    assert_eq!(tag::frame(&mut unit, &mut [0; 42]), Err(5));
+    assert_eq!(exchange(&mut unit, [2; 8], &OTHER_KEY, 0x01, &[]).unwrap()[10..], [0x01]);
+    // Time never drops it: 2^32 seconds later it stands again.
+    unit.seconds = 4_294_967_295;
+    unit.tenth = 9;
+    assert_eq!(tag::frame(&mut unit, &mut [0; 42]), Err(5));
+    tag::elapsed(&mut unit, 1, &mut [0; 42]).unwrap();
+    assert_eq!(tag::frame(&mut unit, &mut [0; 42]), Ok(28));
+}
+
+#[test]
+fn first_of_the_held_keys() {
+    // Two held keys with the same tag are not to be found; each key finds its own place.
+    let mut unit = tag::new_unit(0, 0, 0).unwrap();
+    for n in 0..5u8 {
+        tag::account_key(&mut unit, &[n; 16]).unwrap();
+    }
+    for n in (0..5u8).rev() {
+        let answer = exchange(&mut unit, [n; 8], &[n; 16], 0x00, &[]).unwrap();
+        let block = aes128_decrypt(&[n; 16], answer[10..].try_into().unwrap());
+        assert_eq!(block, [0; 16]);
+    }
+    assert_eq!(exchange(&mut unit, [9; 8], &[9; 16], 0x00, &[]), Err(0x80));
+}

@@ -1,0 +1,6 @@
+// Links the proved library: target/staticlib/libfirmware.a, made by `rt staticlib firmware`.
+fn main() {
+    let root = std::path::Path::new(env!("CARGO_MANIFEST_DIR")).join("../../target/staticlib");
+    println!("cargo:rustc-link-search=native={}", root.display());
+    println!("cargo:rustc-link-lib=static=firmware");
+}
