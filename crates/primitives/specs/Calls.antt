@@ -1,5 +1,5 @@
 -- What the public calls give: the bytes of the standard, or refusal 7. Assumes nothing.
-use Prim.Native.Nat.{ℕ, _+_}
+use Prim.Native.Nat.{ℕ}
 use mathlib.Core.Path.{_≡_}
 use mathlib.Core.Bool.{Bool, cond, _&&_}
 use mathlib.Core.List.{List, _++_}
@@ -14,11 +14,8 @@ abbrev pub longestMessage : ℕ
 longestMessage = 65535
 
 -- "7: message or HMAC key over 65,535 bytes; AES key or block not 16 bytes; hash answer not 32 bytes, block answer not 16"
-abbrev pub refusalNumber : ℕ
-refusalNumber = 7
-
 unfoldable pub orRefusal : Bool → List ℕ → Result
-orRefusal ok answer = cond ok (gives answer) (refuses refusalNumber)
+orRefusal ok answer = cond ok (gives answer) (refuses 7)
 
 -- `room` is the number of lent answer bytes
 unfoldable pub hashed : List ℕ → ℕ → Result
@@ -37,7 +34,7 @@ decrypted key block room = orRefusal (eqb (length key) 16 && (eqb (length block)
 -- The paper's number for each end of a call: 0 where it is no refusal
 abbrev pub number : Ending → ℕ
 number Ending.Done = 0
-number Ending.WrongSize = refusalNumber
+number Ending.WrongSize = 7
 
 abbrev pub numberOf : Result → ℕ
 numberOf (gives answer) = 0

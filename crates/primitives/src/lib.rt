@@ -5,7 +5,8 @@ ghost use mathlib.Core.List.{_++_};
 ghost use Prim.Native.Nat.{_≤_};
 ghost use lib.ListN.{length};
 ghost use Rattle.primitives.specs.Standards.{SHA256, HMAC, AES128, InvAES128};
-ghost use Rattle.primitives.specs.Calls.{Answers, hashed, authenticated, encrypted, decrypted};
+ghost use lib.Dec.{eqb};
+ghost use Rattle.primitives.specs.Calls.{Answers, orRefusal, hashed, authenticated, encrypted, decrypted};
 
 // The end of a call: the answer is written, or a length is not as the call asks (refusal 7) and nothing is written.
 pub enum Ending {
@@ -16,9 +17,7 @@ pub enum Ending {
 // The longest message and the longest HMAC key.
 const LONGEST: usize = 65535;
 
-// The bytes of a digest and of an HMAC; and of an AES key and of a block.
-const DIGEST: usize = 32;
-
+// The bytes of an AES key and of a block.
 const BLOCK: usize = 16;
 
 // SHA-256 of a message of up to 65,535 bytes, into an answer of 32 bytes. Refusal: 7.
@@ -28,30 +27,15 @@ pub fn sha256(message: &[u8], answer: &mut [u8]) -> Ending
     if LONGEST < message.len() {
         return Ending::WrongSize;
     }
-    if answer.len() != DIGEST {
-        return Ending::WrongSize;
-    }
     let digest = hash_pair(message, b"");
-    fill(answer, &digest);
-    Ending::Done
+    give(answer, &digest)
 }
 
 // HMAC-SHA-256 under a key of up to 65,535 bytes of a message of as many, into an answer of 32 bytes. Refusal: 7.
 pub fn hmac_sha256(key: &[u8], message: &[u8], answer: &mut [u8]) -> Ending
     ensures { λ r. ⌜ Answers (authenticated (now (key .entry)) (now (message .entry)) (length (now (answer .entry)))) r (now (answer .entry)) (now (answer .exit)) ⌝ }
 {
-    if LONGEST < key.len() {
-        return Ending::WrongSize;
-    }
-    if LONGEST < message.len() {
-        return Ending::WrongSize;
-    }
-    if answer.len() != DIGEST {
-        return Ending::WrongSize;
-    }
-    let tag = mac(key, message, b"", b"");
-    fill(answer, &tag);
-    Ending::Done
+    hmac_sha256_parts(key, message, b"", b"", answer)
 }
 
 // HMAC-SHA-256 of a message that is handed in as a head, a tail and a last part, none of them copied. Refusal: 7.
@@ -79,12 +63,8 @@ pub fn hmac_sha256_parts(
     if LONGEST < head.len() + (tail.len() + last.len()) {
         return Ending::WrongSize;
     }
-    if answer.len() != DIGEST {
-        return Ending::WrongSize;
-    }
     let tag = mac(key, head, tail, last);
-    fill(answer, &tag);
-    Ending::Done
+    give(answer, &tag)
 }
 
 // AES-128 of a block of 16 bytes under a key of 16 bytes, into an answer of 16 bytes. Refusal: 7.
@@ -97,12 +77,8 @@ pub fn aes128_encrypt(key: &[u8], block: &[u8], answer: &mut [u8]) -> Ending
     if block.len() != BLOCK {
         return Ending::WrongSize;
     }
-    if answer.len() != BLOCK {
-        return Ending::WrongSize;
-    }
     let done = encrypt(sixteen(key), sixteen(block));
-    fill(answer, &done);
-    Ending::Done
+    give(answer, &done)
 }
 
 // Its inverse, with the same sizes. Refusal: 7.
@@ -115,12 +91,8 @@ pub fn aes128_decrypt(key: &[u8], block: &[u8], answer: &mut [u8]) -> Ending
     if block.len() != BLOCK {
         return Ending::WrongSize;
     }
-    if answer.len() != BLOCK {
-        return Ending::WrongSize;
-    }
     let done = decrypt(sixteen(key), sixteen(block));
-    fill(answer, &done);
-    Ending::Done
+    give(answer, &done)
 }
 
 // The sixteen bytes of a slice.
@@ -129,20 +101,23 @@ fn sixteen(s: &[u8]) -> [u8; 16]
     ensures { λ r. ⌜ r ≡ now (s .entry) ⌝ }
 {
     let mut bytes = [0u8; 16];
-    fill(&mut bytes, s);
+    give(&mut bytes, s);
     bytes
 }
 
-// Fills the answer with as many bytes.
-fn fill(answer: &mut [u8], bytes: &[u8])
-    requires { ⌜ length (now bytes) ≡ length (now answer) ⌝ }
-    ensures { λ _. ⌜ now (answer .exit) ≡ now (bytes .entry) ⌝ }
+// Gives the bytes where the answer has room for exactly them. Otherwise refusal 7, and none of them is written.
+fn give(answer: &mut [u8], bytes: &[u8]) -> Ending
+    ensures { λ r. ⌜ Answers (orRefusal (eqb (length (now (answer .entry))) (length (now (bytes .entry)))) (now (bytes .entry))) r (now (answer .entry)) (now (answer .exit)) ⌝ }
 {
     let mut i = 0;
-    while i < bytes.len() {
+    while answer.len() == bytes.len() && i < bytes.len() {
         answer[i] = bytes[i];
         i += 1;
     }
+    if answer.len() == bytes.len() {
+        return Ending::Done;
+    }
+    Ending::WrongSize
 }
 
 // SHA-256 of two parts, one after the other.

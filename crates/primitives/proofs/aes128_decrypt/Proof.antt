@@ -1,11 +1,11 @@
--- `aes128_decrypt` meets its contract: a size that a test found wrong refuses, and the block fills the answer. Assumes nothing.
+-- `aes128_decrypt` meets its contract: a size that a test found wrong refuses, and the block is given. Assumes nothing.
 use mathlib.Core.Path.{ap₂, _∙_}
-use Rattle.primitives.specs.Standards.{InvAES128}
 use native.Mathlib.Omega.{arith}
 use denote.Ref.{now}
-use Rattle.primitives.specs.Calls.{decrypted}
-use Rattle.primitives.proofs.Answered.{block-refused, block-answered}
 use borrow.Author.Needs.{needs}
+use Rattle.primitives.specs.Standards.{InvAES128}
+use Rattle.primitives.specs.Calls.{decrypted}
+use Rattle.primitives.proofs.Answered.{block-refused, block-given}
 use Rattle.primitives.proofs.aes128_decrypt.Statement.{statement}
 use Rattle.primitives.proofs.aes128_decrypt.Tie as tie
 
@@ -13,19 +13,13 @@ returns : tie.Need-returns
 unfolding decrypted
 returns c =
     let a = c .before .before .before .before .args in
-    block-refused (now (a .key)) (now (a .block)) (InvAES128 (now (a .key)) (now (a .block))) (now (a .answer)) (λ k b r. omega arith)
+    block-refused (now (a .key)) (now (a .block)) (InvAES128 (now (a .key)) (now (a .block))) (now (a .answer)) (λ k b. omega arith)
 
 returns-2 : tie.Need-returns-2
 unfolding decrypted
 returns-2 c =
     let a = c .before .before .before .before .before .args in
-    block-refused (now (a .key)) (now (a .block)) (InvAES128 (now (a .key)) (now (a .block))) (now (a .answer)) (λ k b r. omega arith)
-
-returns-3 : tie.Need-returns-3
-unfolding decrypted
-returns-3 c =
-    let a = c .before .before .before .before .before .before .args in
-    block-refused (now (a .key)) (now (a .block)) (InvAES128 (now (a .key)) (now (a .block))) (now (a .answer)) (λ k b r. omega arith)
+    block-refused (now (a .key)) (now (a .block)) (InvAES128 (now (a .key)) (now (a .block))) (now (a .answer)) (λ k b. omega arith)
 
 sixteen-requires : tie.Need-sixteen-requires
 sixteen-requires c κs = search needs
@@ -36,22 +30,24 @@ sixteen-requires-2 c κs = search needs
 decrypt-requires : tie.Need-decrypt-requires
 decrypt-requires c κs = search needs
 
-slice-aggregate-fill : tie.Need-slice-aggregate-fill
-slice-aggregate-fill c = search needs
+slice-aggregate-give : tie.Need-slice-aggregate-give
+slice-aggregate-give c = search needs
 
-fill-requires : tie.Need-fill-requires
-fill-requires c κs = search needs
+give-requires : tie.Need-give-requires
+give-requires c κs = search needs
 
 same-length : tie.Need-same-length
 same-length c = search needs
 
-returns-4 : tie.Need-returns-4
+returns-3 : tie.Need-returns-3
 unfolding decrypted
-returns-4 c =
-    let a = c .before .before .before .before .before .before .before .before .before .before .before .before .before .before .args in
-    block-answered (now (a .key)) (now (a .block)) (InvAES128 (now (a .key)) (now (a .block))) (now (a .answer)) (c .before .before .fill .last .0)
-    (omega arith) (omega arith) (omega arith) (search needs)
-    (c .before .before .fill .ensures ∙ c .before .before .before .before .before .decrypt .ensures ∙ ap₂ InvAES128 (c .before .before .before .before .before .before .before .sixteen .ensures) (c .before .before .before .before .before .before .sixteen2 .ensures))
+returns-3 c =
+    let a = c .before .before .before .before .before .before .before .before .before .before .before .before .before .args in
+    let done = c .before .before .before .before .before .decrypt in
+    block-given (now (a .key)) (now (a .block)) (InvAES128 (now (a .key)) (now (a .block))) (now (a .answer)) (done .result)
+    (c .before .before .give .last .0) (c .before .before .give .result) (omega arith) (omega arith) (search needs)
+    (done .ensures ∙ ap₂ InvAES128 (c .before .before .before .before .before .before .before .sixteen .ensures) (c .before .before .before .before .before .before .sixteen2 .ensures))
+    (c .before .before .give .ensures)
 
 pub aes128-decrypt-spec : {M : Type 1} → statement M
 aes128-decrypt-spec =
@@ -59,11 +55,10 @@ aes128-decrypt-spec =
     (tie.spec
     returns
     returns-2
-    returns-3
     sixteen-requires
     sixteen-requires-2
     decrypt-requires
-    slice-aggregate-fill
-    fill-requires
+    slice-aggregate-give
+    give-requires
     same-length
-    returns-4)
+    returns-3)
