@@ -1,15 +1,10 @@
--- `tag_replay::fed` is safe and ends: the measure is what is left of the piece. Assumes nothing.
+-- `replay_file::fed` is safe and ends: the measure is what is left of the piece. Assumes nothing.
 use Prim.Native.Nat.{_≤_, _-_}
 use native.Mathlib.Omega.{arith}
 use borrow.Author.Needs.{needs}
 use lib.ListN.{length}
-use Rattle.tag_replay.proofs.fed.Statement.{statement}
-use Rattle.tag_replay.proofs.fed.Tie as tie
-use Rattle.tag_replay.proofs.fed.Reads as reads
-use Rattle.tag_replay.proofs.fed.Lts as lts
-use Rattle.io.proofs.large_buffer.Reads as large-buffer-reads
-use Rattle.replay.proofs.feed.Reads as feed-reads
-use Rattle.tag_replay.proofs.write_first.Reads as write-first-reads
+use Rattle.replay_file.proofs.fed.Statement.{statement}
+use Rattle.replay_file.proofs.fed.Tie as tie
 
 abbrev Inv-loop : tie.InvT-loop
 Inv-loop piece session₀ at₀ session at = at ≤ length piece
@@ -38,20 +33,26 @@ slice-aggregate-feed c = search needs
 feed-requires : tie.Need-feed-requires Inv-loop μ-loop
 feed-requires c κs = search needs
 
-slice-aggregate-write-first : tie.Need-slice-aggregate-write-first Inv-loop μ-loop
-slice-aggregate-write-first c = search needs
+slice-aggregate-written : tie.Need-slice-aggregate-written Inv-loop μ-loop
+slice-aggregate-written c = search needs
 
-write-first-requires : tie.Need-write-first-requires Inv-loop μ-loop
-write-first-requires c κs = search needs
+written-requires : tie.Need-written-requires Inv-loop μ-loop
+written-requires c κs = search needs
+
+stopped-requires : tie.Need-stopped-requires Inv-loop μ-loop
+stopped-requires c κs = search needs
 
 returns : tie.Need-returns Inv-loop μ-loop
 returns c = search needs
 
-sub-if2 : tie.Need-sub-if2 Inv-loop μ-loop
-sub-if2 c = omega arith
+stopped-requires-2 : tie.Need-stopped-requires-2 Inv-loop μ-loop
+stopped-requires-2 c κs = search needs
 
 returns-2 : tie.Need-returns-2 Inv-loop μ-loop
 returns-2 c = search needs
+
+sub-if4 : tie.Need-sub-if4 Inv-loop μ-loop
+sub-if4 c = omega arith
 
 add-at : tie.Need-add-at Inv-loop μ-loop
 add-at c = omega arith
@@ -64,6 +65,9 @@ loop-again c = omega arith
 
 returns-3 : tie.Need-returns-3 Inv-loop μ-loop
 returns-3 c = search needs
+
+returns-4 : tie.Need-returns-4 Inv-loop μ-loop
+returns-4 c = search needs
 
 pub fed-spec : {M : Type 1} → statement M
 fed-spec =
@@ -78,12 +82,15 @@ fed-spec =
     part-feed-end
     slice-aggregate-feed
     feed-requires
-    slice-aggregate-write-first
-    write-first-requires
+    slice-aggregate-written
+    written-requires
+    stopped-requires
     returns
-    sub-if2
+    stopped-requires-2
     returns-2
+    sub-if4
     add-at
     loop-less
     loop-again
-    returns-3)
+    returns-3
+    returns-4)

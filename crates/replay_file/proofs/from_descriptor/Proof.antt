@@ -1,12 +1,8 @@
--- `tag_replay::fed_all` is safe and ends: each turn takes one of the reads that are left. Assumes nothing.
+-- `replay_file::from_descriptor` is safe and ends: each turn takes one of the reads that are left. Assumes nothing.
 use native.Mathlib.Omega.{arith}
 use borrow.Author.Needs.{needs}
-use Rattle.tag_replay.proofs.fed_all.Statement.{statement}
-use Rattle.tag_replay.proofs.fed_all.Tie as tie
-use Rattle.tag_replay.proofs.fed_all.Reads as reads
-use Rattle.tag_replay.proofs.fed_all.Lts as lts
-use Rattle.replay.proofs.begin.Reads as begin-reads
-use Rattle.tag_replay.proofs.read_once.Reads as read-once-reads
+use Rattle.replay_file.proofs.from_descriptor.Statement.{statement}
+use Rattle.replay_file.proofs.from_descriptor.Tie as tie
 
 abbrev Inv-loop : tie.InvT-loop
 Inv-loop fd session₀ left₀ session left = Unit {0}
@@ -23,8 +19,23 @@ loop-holds c = tt
 read-once-requires : tie.Need-read-once-requires Inv-loop μ-loop
 read-once-requires c κs = search needs
 
+enum-told : tie.Need-enum-told Inv-loop μ-loop
+enum-told c = search needs
+
+enum-told-2 : tie.Need-enum-told-2 Inv-loop μ-loop
+enum-told-2 c = search needs
+
+finish-requires : tie.Need-finish-requires Inv-loop μ-loop
+finish-requires c κs = search needs
+
 returns : tie.Need-returns Inv-loop μ-loop
 returns c = search needs
+
+enum-told-3 : tie.Need-enum-told-3 Inv-loop μ-loop
+enum-told-3 c = search needs
+
+returns-2 : tie.Need-returns-2 Inv-loop μ-loop
+returns-2 c = search needs
 
 sub-left : tie.Need-sub-left Inv-loop μ-loop
 sub-left c = omega arith
@@ -35,11 +46,11 @@ loop-less c = omega arith
 loop-again : tie.Need-loop-again Inv-loop μ-loop
 loop-again c = tt
 
-returns-2 : tie.Need-returns-2 Inv-loop μ-loop
-returns-2 c = search needs
+returns-3 : tie.Need-returns-3 Inv-loop μ-loop
+returns-3 c = search needs
 
-pub fed-all-spec : {M : Type 1} → statement M
-fed-all-spec =
+pub from-descriptor-spec : {M : Type 1} → statement M
+from-descriptor-spec =
     tie.close
     (tie.spec
     Inv-loop
@@ -47,8 +58,13 @@ fed-all-spec =
     begin-requires
     loop-holds
     read-once-requires
+    enum-told
+    enum-told-2
+    finish-requires
     returns
+    enum-told-3
+    returns-2
     sub-left
     loop-less
     loop-again
-    returns-2)
+    returns-3)
