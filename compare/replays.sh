@@ -13,6 +13,7 @@
 # LIMIT is the number of seconds for one file (60). Exit status: 0 equal, 1 a difference, 2 not run.
 set -u
 here=$(cd "$(dirname "$0")" && pwd)
+cases=$here/../crates/replay_cases
 count=300
 seed=1
 argument=no
@@ -84,9 +85,15 @@ report() {
     bad=0
 }
 
+# stored_answer NAME: the lines under that name in the stored answers. A name has no '=', each line of an answer has one.
+stored_answer() {
+    awk -v name="$1" '!/=/ { found = $0 == name } /=/ && found' "$cases/stdout"
+}
+
 bad=0
-for input in "$here"/sessions/*.txt; do
-    compare stored "$input" "${input%.txt}.out"
+for input in "$cases"/data/sessions/*.txt; do
+    stored_answer "sessions/$(basename "$input")" >"$work/expected"
+    compare stored "$input" "$work/expected"
 done
 report stored
 for input in "$work"/malformed/*.txt; do

@@ -1,0 +1,193 @@
+"""Tags, and the small model of the tag that runs along while a session is made; it follows the papers."""
+
+import hashlib
+import hmac
+
+from aes import decrypt, encrypt
+
+
+def sha(*parts):
+    return hashlib.sha256(b"".join(parts)).digest()
+
+
+def mac(key, *parts):
+    return hmac.new(key, b"".join(parts), hashlib.sha256).digest()[:8]
+
+
+def request(key, nonce, ident, data=b""):
+    head = bytes([ident, 8 + len(data)])
+    return head + mac(key, b"\x01", nonce, head, data) + data
+
+
+def response(key, nonce, ident, data=b""):
+    head = bytes([ident, 8 + len(data)])
+    return head + mac(key, b"\x01", nonce, head, data, b"\x01") + data
+
+
+class Refused(Exception):
+    def __init__(self, code):
+        self.code = code
+
+
+LENGTHS = {0: (8,), 1: (8,), 2: (40, 48), 3: (16,), 4: (8,), 5: (12,), 6: (8,), 7: (8, 9), 8: (16,)}
+
+
+class Model:
+    def __init__(self, power, components, volume):
+        if not -100 <= power <= 20 or components > 3 or volume > 1:
+            raise Refused(1)
+        self.power, self.components, self.volume = power, components, volume
+        self.time = 0  # tenths, modulo 2^32 seconds
+        self.nonce, self.live = None, False
+        self.pairing, self.battery = False, 0
+        self.clear()
+
+    def clear(self):
+        self.keys, self.owner, self.identity = [], None, None
+        self.ring = None  # mask, tenths left, nonce
+        self.protection = None  # the skip flag
+        self.consent = 0
+        self.lent = None  # r, identifier, window
+
+    @property
+    def seconds(self):
+        return self.time // 10
+
+    @property
+    def window(self):
+        return self.seconds // 1024
+
+    def sub_key(self, number):
+        return sha(self.identity, bytes([number]))[:8]
+
+    def proof(self):
+        return sha(self.identity, self.nonce)[:8]
+
+    def identifier_now(self):
+        return self.lent[1] if self.lent and self.lent[2] == self.window else b""
+
+    def notice(self, nonce, status, mask=0, left=0):
+        return response(self.sub_key(2), nonce, 5, bytes([status, mask]) + left.to_bytes(2, "big"))
+
+    def read(self, nonce):
+        if len(nonce) != 8 or nonce == self.nonce:
+            raise Refused(3)
+        self.nonce, self.live = nonce, True
+        return b"\x01" + nonce
+
+    def write(self, data):
+        live, self.live = self.live, False
+        if len(data) < 2 or data[1] not in LENGTHS.get(data[0], ()) or len(data) != data[1] + 2:
+            raise Refused(0x81)
+        ident, tail = data[0], data[10:]
+        if not live:
+            raise Refused(0x80)
+
+        def right(key):
+            return request(key, self.nonce, ident, tail) == data
+
+        def need(fact, code=0x80):
+            if not fact:
+                raise Refused(code)
+
+        if ident in (0, 1):
+            key = next((k for k in self.keys if right(k)), None)
+            need(key is not None)
+            if ident == 0:
+                block = bytes([self.power & 0xFF]) + self.seconds.to_bytes(4, "big")
+                block += bytes([0, self.components, self.volume]) + bytes(8)
+                return response(key, self.nonce, 0, encrypt(key, block))
+            if self.owner is None:
+                self.owner = key
+            bits = (self.identity is not None) + 2 * (key == self.owner)
+            return response(key, self.nonce, 1, bytes([bits]) + self.identifier_now())
+        if ident == 2:
+            need(self.owner is not None and right(self.owner))
+            if self.identity is None:
+                need(len(tail) == 32)
+            else:
+                need(len(tail) == 40 and tail[32:] == self.proof())
+            self.identity = decrypt(self.owner, tail[:32])
+            self.ring = self.lent = None
+            return response(self.owner, self.nonce, 2)
+        need(self.identity is not None)
+        if ident == 3:
+            need(right(self.owner) and tail == self.proof())
+            owner = self.owner
+            self.clear()
+            return response(owner, self.nonce, 3)
+        if ident == 4:
+            need(right(self.sub_key(1)))
+            need(self.consent or self.pairing, 0x82)
+            return response(self.sub_key(1), self.nonce, 4, encrypt(self.owner, self.identity))
+        if ident == 5:
+            need(self.protection is True or right(self.sub_key(2)))
+            whole = (1 << self.components) - 1
+            mask, left, volume = tail[0], int.from_bytes(tail[1:3], "big"), tail[3]
+            if mask == 0xFF:
+                need(whole, 0x81)
+                mask = whole
+            need(mask | whole == whole and volume <= 3, 0x81)
+            need(mask == 0 or 1 <= left <= 6000, 0x81)
+            if mask == 0:
+                self.ring = None
+                return self.notice(self.nonce, 4)
+            self.ring = [mask, left, self.nonce]
+            return self.notice(self.nonce, 0, mask, left)
+        if ident == 6:
+            need(right(self.sub_key(2)))
+            mask, left = self.ring[:2] if self.ring else (0, 0)
+            return response(self.sub_key(2), self.nonce, 6, bytes([mask]) + left.to_bytes(2, "big"))
+        need(right(self.sub_key(3)))
+        if ident == 7:
+            need(tail in (b"", b"\x00", b"\x01"), 0x81)
+            self.protection = tail == b"\x01"
+        else:
+            need(tail == self.proof())
+            self.protection = None
+        return response(self.sub_key(3), self.nonce, ident)
+
+    def button(self):
+        if self.ring:
+            told = self.notice(self.ring[2], 3)
+            self.ring = None
+            return told
+        self.consent = 600
+        return b""
+
+    def elapsed(self, tenths):
+        """The tenth at which a ring ended, or 0, and the notice."""
+        self.time = (self.time + tenths) % (10 << 32)
+        self.consent = max(0, self.consent - tenths)
+        if self.ring and self.ring[1] <= tenths:
+            ended = self.ring[1], self.notice(self.ring[2], 2)
+            self.ring = None
+            return ended
+        if self.ring:
+            self.ring[1] -= tenths
+        return 0, b""
+
+    def key(self, key):
+        if len(key) != 16:
+            raise Refused(4)
+        if key not in self.keys:
+            if len(self.keys) == 5:
+                raise Refused(4)
+            self.keys.append(key)
+
+    def identifier(self, r, ident):
+        if len(r) != 20 or len(ident) != 20:
+            raise Refused(1)
+        if self.identity is None:
+            raise Refused(5)
+        self.lent = r, ident, self.window
+
+    def frame(self):
+        if self.identity is None or not self.identifier_now():
+            raise Refused(5)
+        shield = self.protection is not None
+        flags = self.battery * 2 + shield
+        body = bytes([0x16, 0xAA, 0xFE, 0x40 + shield]) + self.lent[1]
+        if flags:
+            body += bytes([flags ^ sha(self.lent[0])[31]])
+        return bytes([2, 1, 6, len(body)]) + body
