@@ -9,8 +9,7 @@ use Rattle.laws.specs.Bytes.{bigEndian, number}
 use Rattle.laws.proofs.Joined.{getD-after, run-before, run-after}
 use Rattle.laws.proofs.BigEndian.{length-bigEndian, getD-bigEndian}
 use Rattle.laws.proofs.Tabulate.{tabulate-ext}
-use Rattle.hash.specs.Sha256.{zeros, pad, block}
-use Rattle.hash.specs.Padding.{padding, wordsAt}
+use Rattle.hash.specs.Sha256.{zeros, padding, pad, wordsAt, block}
 
 -- a byte of a message of four parts
 module _ (f h t l : List ℕ) (i : ℕ) where
@@ -68,11 +67,11 @@ module _ (n : ℕ) where
       ∙ getD-bigEndian 8 (8 * n) (j - 1 - zeros n) (omega (arith, length-padding)))
 
 pub pad-parts : (m : List ℕ) → pad m ≡ m ++ padding (length m)
-unfolding pad padding
-pad-parts m = append-assoc m (marks (length m)) (bigEndian 8 (8 * length m))
+unfolding pad
+pad-parts m = refl
 
 pub block-words : (p : List ℕ) (i : ℕ) → wordsAt p (64 * i) ≡ block p i
-unfolding block wordsAt
+unfolding block
 block-words p i = refl
 
 -- the words of a block that lies in the first of two parts, and in the second

@@ -1,5 +1,3 @@
 pub mod Sha256
 pub mod Constants
 pub mod Hmac
-pub mod Passes
-pub mod Padding

@@ -1,4 +1,4 @@
--- SHA-256 as FIPS 180-4 defines it, over messages of whole bytes. Names and clause numbers are the standard's.
+-- SHA-256 as FIPS 180-4 defines it, over messages of whole bytes. Clause numbers are the standard's, and names where it has them.
 -- Assumes nothing.
 use Prim.Native.Nat.{ℕ, zero, suc, _+_, _-_, _*_, _/_, _%_, _^_}
 use mathlib.Core.List.{List, [], _∷_, _++_}
@@ -41,17 +41,23 @@ unfoldable pub σ1 : ℕ → ℕ
 σ1 x = bitXor (bitXor (ROTR 17 x) (ROTR 19 x)) (SHR 10 x)
 
 -- §5.1.1: after the message a one bit, then the fewest zero bits that leave 64 of a block of 512, then the message's length in
--- bits as 64 bits. In bytes: 0x80, the smallest k with l + 1 + k ≡ 56 (mod 64) zeros (55 - l modulo 64), and eight
--- bytes. The length field holds for messages under 2^64 bits
+-- bits as 64 bits. In bytes, for a message of n bytes: 0x80, the least k with n + 1 + k ≡ 56 (mod 64) zeros (55 - n modulo 64; that it
+-- is the least is the law zeros-least), and eight bytes. The length field holds for messages under 2^64 bits
 unfoldable pub zeros : ℕ → ℕ
-zeros l = (55 + 64 - l % 64) % 64
+zeros n = (55 + 64 - n % 64) % 64
+
+unfoldable pub padding : ℕ → List ℕ
+padding n = (0x80 ∷ replicate (zeros n) 0) ++ bigEndian 8 (8 * n)
 
 unfoldable pub pad : List ℕ → List ℕ
-pad m = m ++ (0x80 ∷ replicate (zeros (length m)) 0) ++ bigEndian 8 (8 * length m)
+pad m = m ++ padding (length m)
 
--- §5.2.1: block i of the padded message, counted from 0 (the standard's M^(i+1)), sixteen words
+-- §5.2.1: the sixteen words of the 64 bytes from byte k on; and block i of the padded message, counted from 0 (the standard's M^(i+1))
+unfoldable pub wordsAt : List ℕ → ℕ → List ℕ
+wordsAt p k = tabulate 16 (λ t. number (take 4 (drop (k + 4 * t) p)))
+
 unfoldable pub block : List ℕ → ℕ → List ℕ
-block p i = tabulate 16 (λ t. number (take 4 (drop (64 * i + 4 * t) p)))
+block p i = wordsAt p (64 * i)
 
 -- §5.3.3: the initial hash value
 unfoldable pub H⁰ : Working

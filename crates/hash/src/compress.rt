@@ -7,9 +7,10 @@ use super::word::ch;
 use super::word::maj;
 use std::num::wrapping_add_u32;
 ghost use mathlib.Core.Path.{_≡_};
-ghost use Prim.Native.Nat.{_≤_};
+ghost use mathlib.Core.List.{List};
+ghost use Prim.Native.Nat.{ℕ, _+_, _≤_};
+ghost use Rattle.laws.specs.Bytes.{tabulate};
 ghost use Rattle.hash.specs.Sha256 as sha;
-ghost use Rattle.hash.specs.Passes.{turnsFrom};
 
 // §4.2.2: the constants, one to a turn.
 const K: [u32; 64] = [
@@ -114,10 +115,11 @@ fn added(v: Working, state: Working) -> Working
     }
 }
 
-// Sixteen turns from turn `from` on, with the words of that pass.
+// Sixteen turns from turn `from` on. For any block M and hash value H, of whose schedule these are the words and whose working
+// variables these are, it gives the working variables sixteen turns later.
 fn sixteen_turns(from: usize, words: [u32; 16], start: Working) -> Working
     requires { ⌜ from ≤ 48 ⌝ }
-    ensures { λ r. ⌜ r ≡ turnsFrom from words 16 start ⌝ }
+    ensures { λ r. ⌜ ((M : List ℕ) (H : Working) → words ≡ tabulate 16 (λ t. sha.W M (from + t)) → start ≡ sha.turns M from H → r ≡ sha.turns M (from + 16) H) ⌝ }
 {
     let constants = K;
     let mut v = start;

@@ -4,8 +4,7 @@ ghost use mathlib.Core.List.{[], _∷_, _++_};
 ghost use Prim.Native.Nat.{_+_, _*_, _^_, _≤_, _<_};
 ghost use lib.ListN.{length, getD, take, drop};
 ghost use Rattle.laws.specs.Bytes.{number};
-ghost use Rattle.hash.specs.Sha256.{pad, block};
-ghost use Rattle.hash.specs.Padding.{padding, wordsAt};
+ghost use Rattle.hash.specs.Sha256.{padding, pad, wordsAt, block};
 
 // The word of four bytes.
 fn word_of(a: u8, b: u8, c: u8, d: u8) -> u32

@@ -1,4 +1,4 @@
-// The six functions of FIPS 180-4, §4.1.2, and the sums of words modulo 2^32 that it takes.
+// The six functions of FIPS 180-4, §4.1.2.
 ghost use mathlib.Core.Path.{_≡_};
 ghost use Rattle.hash.specs.Sha256.{Ch, Maj, Σ0, Σ1, σ0, σ1};
 

@@ -3,6 +3,7 @@ use mathlib.Core.Path.{_≡_, _∙_}
 use native.Mathlib.Omega.{arith}
 use lib.ListN.{length}
 use Rattle.hash.specs.Sha256.{compress}
+use Rattle.hash.proofs.Words.{window}
 use Rattle.hash.proofs.Turns.{four-passes}
 use borrow.Author.Needs.{needs}
 use Rattle.hash.proofs.compress.compress.Statement.{statement}
@@ -33,7 +34,7 @@ added-requires : tie.Need-added-requires
 added-requires c κs = search needs
 
 returns : tie.Need-returns
-unfolding compress
+unfolding compress window
 returns c =
     let c₇ = c .before in
     let c₆ = c₇ .before in

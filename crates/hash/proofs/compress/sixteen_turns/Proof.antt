@@ -3,20 +3,20 @@ use mathlib.Core.Path.{_≡_}
 use Prim.Native.Nat.{_-_, _≤_}
 use native.Mathlib.Omega.{arith}
 use borrow.Author.Needs.{needs}
-use Rattle.hash.proofs.Turns.{turns-none, turns-more}
-use Rattle.hash.specs.Passes.{turnsFrom}
+use Rattle.hash.proofs.Words.{window}
+use Rattle.hash.proofs.Turns.{Passed, passed-none, passed-more}
 use Rattle.hash.specs.Constants.{K}
 use Rattle.hash.proofs.compress.sixteen_turns.Statement.{statement}
 use Rattle.hash.proofs.compress.sixteen_turns.Tie as tie
 
 abbrev Inv-loop : tie.InvT-loop
-Inv-loop from words constants v₀ i₀ v i = (i ≤ 16) × (v ≡ turnsFrom from words i v₀)
+Inv-loop from words constants v₀ i₀ v i = (i ≤ 16) × Passed from i words v₀ v
 
 abbrev μ-loop : tie.MeasureT-loop
 μ-loop from words constants v₀ i₀ v i = 16 - i
 
 loop-holds : tie.Need-loop-holds Inv-loop μ-loop
-loop-holds c = (omega arith, turns-none _ _ _)
+loop-holds c = (omega arith, passed-none _ _ _)
 
 add-turn : tie.Need-add-turn Inv-loop μ-loop
 add-turn c = search needs
@@ -46,9 +46,10 @@ loop-again : tie.Need-loop-again Inv-loop μ-loop
 unfolding K
 loop-again c =
     let at = c .before .before .loop in
-    (omega arith, turns-more _ _ (at .i) _ (at .v) (c .turn .result) (at .inv .1) (c .turn .ensures))
+    (omega arith, passed-more _ (at .i) _ _ (at .v) (c .turn .result) (omega arith) (at .inv .1) (c .turn .ensures))
 
 returns : tie.Need-returns Inv-loop μ-loop
+unfolding window
 returns c =
     let at = c .before .loop in
     let e : at .i ≡ 16 = omega arith in

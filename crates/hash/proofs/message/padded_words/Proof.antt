@@ -8,8 +8,7 @@ use denote.Ref.{now}
 use lib.ListN.{take, drop}
 use Rattle.laws.specs.Bytes.{number}
 use Rattle.laws.proofs.Tabulate.{filledTo, filled-none, filled-turn, filled-all}
-use Rattle.hash.specs.Sha256.{pad}
-use Rattle.hash.specs.Padding.{wordsAt}
+use Rattle.hash.specs.Sha256.{pad, wordsAt}
 use Rattle.hash.proofs.Padded.{pad-fits}
 use Rattle.hash.proofs.message.padded_words.Statement.{statement}
 use Rattle.hash.proofs.message.padded_words.Tie as tie

@@ -8,7 +8,7 @@ use lib.ListN.{take, drop}
 use Rattle.laws.specs.Bytes.{number}
 use Rattle.laws.proofs.Tabulate.{filledTo, filled-none, filled-turn, filled-all}
 use Rattle.laws.proofs.BigEndian.{number-four}
-use Rattle.hash.specs.Padding.{wordsAt}
+use Rattle.hash.specs.Sha256.{wordsAt}
 use Rattle.hash.proofs.message.words_at.Statement.{statement}
 use Rattle.hash.proofs.message.words_at.Tie as tie
 
