@@ -1,5 +1,5 @@
-// SHA-256 and HMAC-SHA-256. Sources: NIST, the examples of FIPS 180-4 and SHA2_Additional; RFC 4231, section 4; and GNU coreutils for
-// three lengths at the edges.
+// SHA-256 and HMAC-SHA-256. Sources: NIST, the examples of FIPS 180-4, short messages of SHAVS and SHA2_Additional; NESSIE; RFC 4231, section 4;
+// and GNU coreutils for three lengths at the edges.
 use crate::print;
 
 // Prints the name of a vector and the digest of its message.
@@ -30,8 +30,7 @@ fn authenticates_half(name: &[u8], key: &[u8], message: &[u8]) {
 }
 
 fn examples() {
-    print::text(b"FIPS 180-4, examples\n");
-    hashes(b"empty ", b"");
+    print::text(b"FIPS 180-4, the messages of its examples (896 bits is that of SHA-512)\n");
     hashes(b"abc ", b"abc");
     hashes(
         b"448 bits ",
@@ -41,6 +40,15 @@ fn examples() {
         b"896 bits ",
         b"abcdefghbcdefghicdefghijdefghijkefghijklfghijklmghijklmnhijklmnoijklmnopjklmnopqklmnopqrlmnopqrsmnopqrstnopqrstu",
     );
+}
+
+fn short_messages() {
+    print::text(b"NIST, SHAVS, short messages\n");
+    hashes(b"empty ", b"");
+    hashes(b"d3 ", b"\xd3");
+    hashes(b"11af ", b"\x11\xaf");
+    hashes(b"b4190e ", b"\xb4\x19\x0e");
+    hashes(b"74ba2521 ", b"\x74\xba\x25\x21");
 }
 
 fn additional() {
@@ -54,6 +62,21 @@ fn additional() {
     hashes(b"1000 zeros ", &[0u8; 1000]);
     hashes(b"1000 A ", &[b'A'; 1000]);
     hashes(b"1005 U ", &[b'U'; 1005]);
+}
+
+fn nessie() {
+    print::text(b"NESSIE, SHA-256, set 1\n");
+    hashes(b"a ", b"a");
+    hashes(b"message digest ", b"message digest");
+    hashes(b"a to z ", b"abcdefghijklmnopqrstuvwxyz");
+    hashes(
+        b"A to Z, a to z, 0 to 9 ",
+        b"ABCDEFGHIJKLMNOPQRSTUVWXYZabcdefghijklmnopqrstuvwxyz0123456789",
+    );
+    hashes(
+        b"8 times 1234567890 ",
+        b"12345678901234567890123456789012345678901234567890123456789012345678901234567890",
+    );
 }
 
 fn edges() {
@@ -88,7 +111,9 @@ fn tags() {
 
 pub fn run() {
     examples();
+    short_messages();
     additional();
+    nessie();
     edges();
     tags();
 }
