@@ -2,10 +2,10 @@
 -- cipher and the inverse cipher. AES-128 is Nk = 4, Nr = 10. Byte i of the state is row i mod 4, column i / 4 (§3.4).
 -- Assumes nothing.
 use Prim.Native.Nat.{ℕ, zero, suc, _+_, _-_, _*_, _/_, _%_}
-use mathlib.Core.Bool.{Bool, cond, _&&_}
+use mathlib.Core.Bool.{cond, _&&_}
 use mathlib.Core.List.{List, [], _∷_, _++_, map}
 use lib.Dec.{eqb, ltb}
-use lib.ListN.{length, getD, take, drop}
+use lib.ListN.{getD, take, drop}
 use lib.Bits.{bitXor}
 use Rattle.laws.specs.Bytes.{tabulate, _⊕_}
 use Rattle.cipher.specs.Field.{_•_, xtimes}

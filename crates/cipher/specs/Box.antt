@@ -1,6 +1,5 @@
 -- The substitution box of FIPS 197, §5.1.1, and its inverse, §5.3.2, as rules and not as tables. Assumes nothing.
 use Prim.Native.Nat.{ℕ, zero, suc, _+_, _*_, _^_, _%_}
-use lib.Bits.{bitXor}
 use Rattle.cipher.specs.Field.{bit, inverse}
 
 -- the sum of f 0, .., f (n - 1) at the places 0, .., n - 1

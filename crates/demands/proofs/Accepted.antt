@@ -1,22 +1,26 @@
--- Valid writes are served. Each law follows the write to the judgement of its ID (Judging) and there opens every check by what the unit
+-- Valid writes and reads are served. Each law of a write follows the write to the judgement of its ID (Judging) and there opens every check by what the unit
 -- permits: the tag is the key's own, the proof is the held key's own, the first key that makes the tag is the one meant. Assumes nothing.
-use Prim.Native.Nat.{ℕ, zero, suc, _+_, _<_}
+use Prim.Native.Nat.{ℕ, zero, suc, _+_, _≤_, _<_}
 use mathlib.Core.Path.{_≡_, refl, ap, _∙_}
-use mathlib.Core.Bool.{Bool, true, false, _||_}
+use mathlib.Core.Bool.{Bool, true, false, _&&_, _||_}
 use mathlib.Core.List.{List, [], _∷_, _++_}
 use native.Mathlib.Omega.{arith}
 use lib.Dec.{ltb}
 use lib.ListN.{length, getD, length-append}
 use lib.Seq.{drop-at}
-use borrow.Author.Tests.{le-leb}
+use borrow.Author.Tests.{le-leb, eq-eqb}
+use Rattle.laws.specs.Bytes.{sameBytes}
 use Rattle.laws.proofs.Flags.{or-right}
 use Rattle.laws.proofs.Same.{same-refl, differ-same}
-use Rattle.wire.specs.Signing.{tagBytes, requestTag, keyProof, recoveryKey, ringKey, protectionKey}
+use Rattle.wire.specs.Signing.{version, tagBytes, requestTag, keyProof, recoveryKey, ringKey, protectionKey}
 use Rattle.wire.specs.Shape.{Request, provenSize, sizeLegal, oneOf, legalSizes}
 use Rattle.unit.specs.declared.TagUnit.{TagUnit}
-use Rattle.unit.specs.WellFormed.{heldKeys}
+use Rattle.unit.specs.Numbers.{answerRoom, nonceBytes}
+use Rattle.unit.specs.WellFormed.{wellFormed, heldKeys}
 use Rattle.unit.specs.Standing.{shownIdentifier}
-use Rattle.unit.specs.Change.{spent}
+use Rattle.unit.specs.Change.{spent, withNonce}
+use Rattle.unit.specs.Outcome.{giving}
+use Rattle.tag.specs.Calls as tag
 use Rattle.requests.specs.declared.Found.{Found}
 use Rattle.requests.specs.Judgement.{accepts, lastNonce, tagged, keyAt, firstFrom, firstTagged}
 use Rattle.requests.specs.Provisioning.{parameters, readParameters, readState, setKey, mayReplace, clearKey, recoverKey}
@@ -24,7 +28,21 @@ use Rattle.requests.specs.Ringing.{skips, ring, rung, readSound}
 use Rattle.requests.specs.Protecting.{protect, unprotect}
 use Rattle.requests.specs.Write.{byId}
 use Rattle.demands.specs.Accepted.{built, Open, First, Serves, Accepted}
-use Rattle.demands.proofs.Judging.{length-requestTag, length-keyProof, requestOf, accepted-as, own-tag}
+use Rattle.demands.specs.History.{read, step}
+use Rattle.demands.proofs.Judging.{opened, length-requestTag, length-keyProof, requestOf, accepted-as, own-tag}
+
+-- A read of a nonce that is not the last issued
+pub reads : (u : TagUnit) (room : ℕ) (nonce : List ℕ) → wellFormed u ≡ true → answerRoom ≤ room → length nonce ≡ nonceBytes
+    → u .nonce .held && sameBytes (u .nonce .bytes) nonce ≡ false
+    → step (read nonce room) u ≡ giving (version ∷ nonce) (withNonce (record { held = true; live = true; bytes = nonce }) u)
+unfolding step tag.read tag.issuing tag.nonceFits
+reads u room nonce right fits long other =
+    opened u room (tag.issuing nonce u) right fits
+    ∙ rw (eq-eqb (length nonce) nonceBytes long, other)
+
+not-last : (held : Bool) (last nonce : List ℕ) → (held ≡ true → last ≡ nonce → ⊥) → held && sameBytes last nonce ≡ false
+not-last true last nonce other = differ-same last nonce (other refl)
+not-last false last nonce other = refl
 
 -- The first key of a list that passes a test, where every one before it fails
 first-found : (test : List ℕ → Bool) (i : ℕ) (keys : List (List ℕ)) (p : ℕ) → p < length keys
@@ -68,6 +86,8 @@ pub accepted : Accepted
 unfolding byId sizeLegal oneOf legalSizes readParameters parameters readState shownIdentifier setKey mayReplace clearKey recoverKey ring rung readSound protect unprotect
 accepted =
     record {
+      nonceRead = λ u room nonce right fits long other.
+          reads u room nonce right fits long (not-last (u .nonce .held) (u .nonce .bytes) nonce other);
       parametersRead = λ u room p ready first.
           signed-as u room 0x00 8 (keyAt u p) [] refl ready refl refl (rw (first-tagged u 0x00 p first));
       stateRead = λ u room p ready first.

@@ -2,14 +2,13 @@
 -- served by the acceptance laws. Nothing is computed. Assumes nothing.
 use Prim.Native.Nat.{ℕ, zero, suc, _+_, _<_}
 use mathlib.Core.Path.{_≡_, refl, sym, ap, _∙_}
-use mathlib.Core.Bool.{true, false, _&&_}
+use mathlib.Core.Bool.{true}
 use mathlib.Core.List.{List, [], _∷_, _++_}
 use native.Mathlib.Omega.{arith}
 use lib.ListN.{length, getD, replicate}
 use lib.Seq.{take-all, drop-at}
 use borrow.Author.Tests.{eq-eqb}
 use Rattle.laws.specs.Answer.{gives}
-use Rattle.laws.specs.Bytes.{sameBytes}
 use Rattle.laws.proofs.Same.{differ-same}
 use Rattle.primitives.specs.Standards.{HMAC}
 use Rattle.primitives.proofs.Laws.{HMAC-byte}
@@ -19,7 +18,7 @@ use Rattle.wire.specs.KeyBlocks.{decryptedKey, encryptedKey}
 use Rattle.unit.specs.declared.TagUnit.{TagUnit}
 use Rattle.unit.specs.declared.Settings.{Settings}
 use Rattle.unit.specs.declared.Owner.{Owner}
-use Rattle.unit.specs.Numbers.{answerRoom, fullConsent, nonceBytes}
+use Rattle.unit.specs.Numbers.{answerRoom, fullConsent}
 use Rattle.unit.specs.WellFormed.{settingsLegal, wellFormed, heldKeys, among}
 use Rattle.unit.specs.Change.{fresh, noAccounts, withAccounts, withNonce, withOwner, withConsent, withIdentifier, noIdentifier, silenced, spent}
 use Rattle.unit.specs.Outcome.{Outcome, giving, formed}
@@ -33,18 +32,10 @@ use Rattle.demands.specs.Example.{sent, Given, provisioning, recovering,
 use Rattle.demands.proofs.OfBytes.{bytes-take, bytes-cons, bytes-append}
 use Rattle.demands.proofs.Histories.{after-append}
 use Rattle.demands.proofs.Judging.{opened, length-requestTag}
-use Rattle.demands.proofs.Accepted.{accepted}
+use Rattle.demands.proofs.Accepted.{reads, accepted}
 use Rattle.demands.proofs.Beside.{kind}
 use Rattle.demands.proofs.Noncing.{issued}
 use Rattle.demands.proofs.Recovery.{recovery}
-
--- A read of a nonce that is not the last
-reads : (u : TagUnit) (nonce : List ℕ) → wellFormed u ≡ true → length nonce ≡ nonceBytes → u .nonce .held && sameBytes (u .nonce .bytes) nonce ≡ false
-    → step (read nonce answerRoom) u ≡ giving (version ∷ nonce) (withNonce (issued nonce) u)
-unfolding step tag.read tag.issuing tag.nonceFits
-reads u nonce right long other =
-    opened u answerRoom (tag.issuing nonce u) right (omega arith)
-    ∙ rw (eq-eqb (length nonce) nonceBytes long, other)
 
 -- A write as sent is of bytes
 sent-bytes : (id : ℕ) (by nonce additional : List ℕ) → id < 256 → length additional < 128 → Bytes additional → Bytes (sent id by nonce additional)
@@ -158,9 +149,9 @@ module _ (s : Settings) (key C n₁ n₂ n₃ : List ℕ) (g : Given s key C n�
   before =
       runs-after
       (next (ap unit-of adds)
-      (next (ap unit-of (reads keyed n₁ keyed-formed (g .long₁) refl))
+      (next (ap unit-of (reads keyed answerRoom n₁ keyed-formed (omega arith) (g .long₁) refl))
       (next owns-it
-      (next (ap unit-of (reads owned n₂ owned-formed (g .long₂) (differ-same n₁ n₂ (g .second)))) done))))
+      (next (ap unit-of (reads owned answerRoom n₂ owned-formed (omega arith) (g .long₂) (differ-same n₁ n₂ (g .second)))) done))))
 
   all : after (provisioning key C n₁ n₂ n₃) (fresh s) ≡ third
   all =
@@ -169,7 +160,7 @@ module _ (s : Settings) (key C n₁ n₂ n₃ : List ℕ) (g : Given s key C n�
       ∙ runs-after
       (next (ap unit-of sets-it)
       (next (ap unit-of presses)
-      (next (ap unit-of (reads consented n₃ consented-formed (g .long₃) (differ-same n₂ n₃ (g .third)))) done)))
+      (next (ap unit-of (reads consented answerRoom n₃ consented-formed (omega arith) (g .long₃) (differ-same n₂ n₃ (g .third)))) done)))
 
   recovers-it : step (write (recovering key C n₃) answerRoom) third .result
       ≡ gives (answer (recoveryKey (decryptedKey key C)) third 0x04 (encryptedKey key (decryptedKey key C)))

@@ -1,12 +1,12 @@
--- Demand 2, that valid writes are served: for each of the nine IDs, the rightly built write on a unit that permits it succeeds with the
--- stated answer and the stated unit. Without this a tag that always refuses would keep every promise. Assumes nothing.
+-- Demand 2, that valid writes and reads are served: for each of the nine IDs, the rightly built write on a unit that permits it succeeds
+-- with the stated answer and the stated unit, and so does a read. Without this a tag that always refuses would keep every promise.
+-- Assumes nothing.
 use Prim.Native.Nat.{ℕ, _+_, _≤_, _<_}
 use mathlib.Core.Path.{_≡_}
-use mathlib.Core.Bool.{Bool, true, false, cond, _||_}
+use mathlib.Core.Bool.{true, false, _||_}
 use mathlib.Core.List.{List, [], _∷_, _++_}
 use lib.Dec.{eqb, ltb}
-use lib.ListN.{length, take}
-use Rattle.laws.specs.Bytes.{bigEndian}
+use lib.ListN.{length}
 use Rattle.primitives.specs.Standards.{AES128}
 use Rattle.wire.specs.Signing.{version, tagBytes, requestTag, keyProof, signed, recoveryKey, ringKey, protectionKey, ringNotice, stopNotice, started, byRequest}
 use Rattle.wire.specs.KeyBlocks.{decryptedKey, encryptedKey}
@@ -14,15 +14,15 @@ use Rattle.unit.specs.declared.TagUnit.{TagUnit}
 use Rattle.unit.specs.declared.Owner.{Owner}
 use Rattle.unit.specs.declared.Sound.{Sound}
 use Rattle.unit.specs.declared.Protection.{Protection}
-use Rattle.unit.specs.Numbers.{answerRoom}
+use Rattle.unit.specs.Numbers.{answerRoom, nonceBytes}
 use Rattle.unit.specs.WellFormed.{wellFormed, heldKeys}
 use Rattle.unit.specs.Standing.{shownIdentifier}
-use Rattle.unit.specs.Change.{spent, silenced, withOwner, withSound, withProtection}
-use Rattle.unit.specs.Outcome.{Outcome, giving}
+use Rattle.unit.specs.Change.{spent, silenced, withNonce, withOwner, withSound, withProtection}
+use Rattle.unit.specs.Outcome.{giving}
 use Rattle.requests.specs.Judgement.{lastNonce, keyAt}
 use Rattle.requests.specs.Provisioning.{parameters, ownerFor, owns, stateBits, rekeyed, cleared}
 use Rattle.requests.specs.Ringing.{soundState, skips, ringLegal, ringMask, heldVolume, askedTimeout}
-use Rattle.demands.specs.History.{Call, write, step}
+use Rattle.demands.specs.History.{read, write, step}
 
 -- the write of an ID, signed by a key with the unit's nonce
 unfoldable pub built : ℕ → List ℕ → TagUnit → List ℕ → List ℕ
@@ -49,6 +49,10 @@ abbrev pub answer : List ℕ → TagUnit → ℕ → List ℕ → List ℕ
 answer key u id «data» = signed key (lastNonce u) id «data»
 
 pub record Accepted : Type 0 where
+  -- a nonce that is not the last issued; it replaces any other
+  pub nonceRead : (u : TagUnit) (room : ℕ) (nonce : List ℕ) → wellFormed u ≡ true → answerRoom ≤ room → length nonce ≡ nonceBytes
+      → (u .nonce .held ≡ true → u .nonce .bytes ≡ nonce → ⊥)
+      → step (read nonce room) u ≡ giving (version ∷ nonce) (withNonce (record { held = true; live = true; bytes = nonce }) u)
   pub parametersRead : (u : TagUnit) (room p : ℕ) → Open u room → First u 0x00 p
       → Serves (built 0x00 (keyAt u p) u []) room u (answer (keyAt u p) u 0x00 (AES128 (keyAt u p) (parameters u))) (spent u)
   pub stateRead : (u : TagUnit) (room p : ℕ) → Open u room → First u 0x01 p

@@ -4,12 +4,10 @@
 use Prim.Native.Nat.{ℕ}
 use mathlib.Core.Path.{_≡_}
 use mathlib.Core.Bool.{false}
-use mathlib.Core.List.{List, [], _∷_}
-use mathlib.Core.Logic.{_⊎_}
+use mathlib.Core.List.{List, []}
 use lib.IntN.{ℤ}
-use Rattle.laws.specs.Answer.{Result, gives, refuses, lentAfter}
+use Rattle.laws.specs.Answer.{gives, refuses, lentAfter}
 use Rattle.unit.specs.declared.TagUnit.{TagUnit}
-use Rattle.unit.specs.declared.Settings.{Settings}
 use Rattle.unit.specs.Change.{spent, fresh}
 use Rattle.unit.specs.WellFormed.{wellFormed}
 use Rattle.unit.specs.Outcome.{Outcome}

@@ -3,7 +3,7 @@
 -- tag, moving one tenth at a time, gives." One claim about whole lists. Assumes nothing.
 use Prim.Native.Nat.{ℕ, zero, suc, _+_}
 use mathlib.Core.Path.{_≡_}
-use mathlib.Core.Bool.{Bool, true, false, cond, _&&_}
+use mathlib.Core.Bool.{Bool, true, cond}
 use mathlib.Core.List.{List, [], _∷_, _++_}
 use lib.Dec.{leb, eqb}
 use Rattle.laws.specs.Answer.{Result, gives, refuses}
@@ -14,7 +14,6 @@ use Rattle.unit.specs.declared.Settings.{Settings}
 use Rattle.unit.specs.Numbers.{answerRoom}
 use Rattle.unit.specs.Change.{fresh}
 use Rattle.unit.specs.WellFormed.{settingsLegal}
-use Rattle.unit.specs.Outcome.{Outcome}
 use Rattle.tag.specs.Time.{oneTenth, endsNext, timeoutNotice}
 use Rattle.demands.specs.History.{Call, read, write, button, elapsed, pairing, battery, accountKey, identifier, frame, step}
 

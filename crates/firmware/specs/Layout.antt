@@ -1,7 +1,7 @@
 -- The unit record as bytes of a fixed layout, which a host keeps in its own memory and saves to flash. All numbers are big-endian. Any
 -- bytes mean some record: those of another length, or that name no variant, mean one that is not well formed. Assumes nothing.
 use Prim.Native.Nat.{ℕ, _-_, _+_, _^_}
-use mathlib.Core.Bool.{Bool, true, false, cond, not, _&&_, _||_}
+use mathlib.Core.Bool.{Bool, true, false, cond, _&&_, _||_}
 use mathlib.Core.List.{List, [], _∷_, _++_}
 use lib.Dec.{leb, ltb, eqb}
 use lib.ListN.{length, getD, take, drop}

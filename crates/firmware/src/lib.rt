@@ -14,9 +14,9 @@ use unit::Reply;
 // 65,536 times the tenth at which a ring ended stands in the number of elapsed time.
 const ENDED_BASE: u64 = 65536;
 
-pub mod decode;
-pub mod encode;
-pub mod finish;
+mod decode;
+mod encode;
+mod finish;
 
 // A new unit in the record. Refusals: 2 for a record of another length, then 1 for settings out of range; the bytes then stay.
 #[no_mangle]

@@ -1,6 +1,6 @@
 -- The unit with one thing changed, and the one form of each absent thing. Assumes nothing.
 use Prim.Native.Nat.{ℕ}
-use mathlib.Core.Bool.{Bool, true, false}
+use mathlib.Core.Bool.{Bool, false}
 use mathlib.Core.List.{List}
 use lib.ListN.{replicate}
 use Rattle.unit.specs.Numbers.{nonceBytes, mostKeys, accountKeyBytes, identityBytes, identifierBytes}
@@ -8,7 +8,6 @@ use Rattle.unit.specs.declared.TagUnit.{TagUnit}
 use Rattle.unit.specs.declared.Settings.{Settings}
 use Rattle.unit.specs.declared.Clock.{Clock}
 use Rattle.unit.specs.declared.Nonce.{Nonce}
-use Rattle.unit.specs.declared.AccountKey.{AccountKey}
 use Rattle.unit.specs.declared.Accounts.{Accounts}
 use Rattle.unit.specs.declared.Owner.{Owner}
 use Rattle.unit.specs.declared.Identity.{Identity}

@@ -2,10 +2,9 @@
 -- the promise of a call says of them. Assumes nothing.
 use Prim.Native.Nat.{ℕ}
 use mathlib.Core.Path.{_≡_}
-use mathlib.Core.Bool.{Bool, cond}
+use mathlib.Core.Bool.{cond}
 use mathlib.Core.List.{List}
 use lib.Dec.{ltb}
-use lib.ListN.{length}
 use Rattle.laws.specs.Answer.{Result, gives, refuses, lentAfter}
 use Rattle.unit.specs.Numbers.{answerRoom}
 use Rattle.unit.specs.Refusals.{endOf, ending}

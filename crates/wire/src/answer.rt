@@ -3,7 +3,6 @@ ghost use mathlib.Core.Path.{_≡_};
 ghost use mathlib.Core.List.{_++_};
 ghost use Prim.Native.Nat.{_+_, _≤_};
 ghost use lib.ListN.{length, take, drop};
-ghost use Rattle.laws.specs.Answer.{gives, lentAfter};
 ghost use Rattle.wire.specs.Signing.{signed, ringNotice};
 ghost use Rattle.wire.specs.Wrote.{Wrote};
 use crate::signing;
