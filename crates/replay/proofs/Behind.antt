@@ -11,6 +11,7 @@ use Rattle.laws.specs.Bytes.{sameBytes}
 use Rattle.laws.proofs.Same.{same-equal}
 use Rattle.replay.specs.Reading.{after}
 use Rattle.replay.specs.Values.{behind, readIn}
+use Rattle.replay.specs.Replay.{Line}
 
 module _ (key line : List ℕ) {r : Bool} (found : r ≡ sameBytes (take (length key) line) key) where
   pub key-fits : r ≡ true → length key ≤ length line
@@ -28,3 +29,11 @@ module _ (key line : List ℕ) {r : Bool} (found : r ≡ sameBytes (take (length
     pub no-key : r ≡ false → none ≡ behind key f line
     unfolding behind after
     no-key h = rw (sym found ∙ h)
+
+-- a chain of tests: one that holds is met, one that fails is skipped
+module _ {r test : Bool} (is : r ≡ test) (a b : Line) where
+  pub met : r ≡ true → a ≡ cond test a b
+  met h = rw (sym is ∙ h)
+
+  pub skip : r ≡ false → {l : Line} → l ≡ b → l ≡ cond test a b
+  skip h e = rw (sym is ∙ h) e

@@ -15,13 +15,14 @@ use Rattle.unit.specs.declared.Reply.{Reply}
 use Rattle.unit.specs.declared.Reply.the-variants.{Done, Refused}
 use Rattle.tag.specs.Passes.{Passes}
 use Rattle.replay.specs.declared.Run.{Run}
+use Rattle.replay.specs.declared.events.Event as code
 use Rattle.replay.specs.declared.Next.the-variants as next
 use Rattle.replay.specs.Event.{Event, performed, printed, successText, bytesText, refusedText, notesText, elapsed}
 use Rattle.replay.specs.Text.{ascii, decimal, newline}
 use Rattle.replay.specs.Replay.{brings}
 use Rattle.replay.specs.Feeding.{closed}
 use Rattle.replay.specs.Written.{Puts}
-use Rattle.replay.specs.Session.{SoundRun, Ready, Closes, moved, answeredText, settledText, passedText, elapsedText, repliesWithin, lineRoom}
+use Rattle.replay.specs.Session.{eventOf, Ready, ClosesLine, Performs, moved, answeredText, settledText, passedText, elapsedText, repliesWithin, lineRoom}
 use Rattle.replay.proofs.Texts.{length-bytes, length-refused, length-notes}
 use Rattle.replay.proofs.Decimal.{length-decimal}
 
@@ -110,32 +111,50 @@ length-passed at seconds (Done n) answer size within =
     )
 length-passed at seconds (Refused r) answer size within = omega (arith, length-refused (number r))
 
--- an event that was performed closes its line
-pub closes-event : (e : Event) (run after : Run) (u : TagUnit) {at written : ℕ} {text before out : List ℕ} → Ready run at before
-    → after ≡ moved next.Event u run → u ≡ performed e (run .unit) .unit
-    → text ≡ printed e (performed e (run .unit)) (performed e (run .unit) .result)
-    → length text ≤ lineRoom → Puts text at before written out
-    → Closes (closed (brings e) (run .number) (run .unit)) at before after written out
-unfolding closed
-closes-event e run after u {at} {written} {text} {before} {out} ready is unit prints few puts =
+-- what a call of the tag answers is what its event prints
+module _ (e : Event) (u : TagUnit) (title : List ℕ) (short : length title ≤ 32) {unit unit′ : TagUnit} {reply : Reply} {at written : ℕ} {before out : List ℕ} where
+  pub performs-answered : ((o : Outcome) (a : List ℕ) → successText e o a ≡ title ++ bytesText a) → {lent answer : List ℕ}
+      → Answers (performed e u) unit reply lent answer → length answer ≡ 42
+      → (unit′ ≡ unit) × Puts (answeredText title reply answer) at before written out → Performs e u at before unit′ written out
+  performs-answered success {lent} {answer} p size done =
+      let prints = answers-printed (performed e u) e title (success (performed e u)) p in
+      record {
+        unitIs = done .0 ∙ p .unitIs;
+        few = rw prints at (length-answered title short reply answer size (answers-within 42 p size));
+        puts = rw prints at (done .1);
+      }
+
+  pub performs-settled : ((o : Outcome) (a : List ℕ) → successText e o a ≡ title) → Settles (performed e u) unit reply
+      → (unit′ ≡ unit) × Puts (settledText title reply) at before written out → Performs e u at before unit′ written out
+  performs-settled success p done =
+      let prints = settles-printed (performed e u) e title (success (performed e u)) p in
+      record { unitIs = done .0 ∙ p .unitIs; few = rw prints at (length-settled title short reply); puts = rw prints at (done .1) }
+
+pub performs-passed : (n : ℕ) (u : TagUnit) {unit unit′ : TagUnit} {reply : Reply} {tenth at written : ℕ} {lent answer before out : List ℕ}
+    → Passes (performed (elapsed n) u) unit reply tenth lent answer → length answer ≡ 42
+    → (unit′ ≡ unit) × Puts (passedText tenth (unit .clock .seconds) reply answer) at before written out
+    → Performs (elapsed n) u at before unit′ written out
+performs-passed n u {unit} {unit′} {reply} {tenth} {at} {written} {lent} {answer} p size done =
+    let prints = passes-printed (performed (elapsed n) u) n p in
     record {
-      stateIs = rw (is, ready .going, unit, add-one);
-      sound = rw is (record { numbered = omega (arith, ready .counted); withinR = ready .sound .withinR });
-      few = rw prints at few;
-      puts = rw prints at puts;
+      unitIs = done .0 ∙ p .answers .unitIs;
+      few = rw prints at (length-passed tenth (unit .clock .seconds) reply answer size (answers-within 42 (p .answers) size));
+      puts = rw prints at (done .1);
     }
 
-module _ (e : Event) (title : List ℕ) (short : length title ≤ 32) {run after : Run} {u : TagUnit} {reply : Reply} {before out : List ℕ} {at written : ℕ}
-    (ready : Ready run at before) (is : after ≡ moved next.Event u run) where
-  pub closes-answered : ((o : Outcome) (a : List ℕ) → successText e o a ≡ title ++ bytesText a) → {lent answer : List ℕ}
-      → Answers (performed e (run .unit)) u reply lent answer → length answer ≡ 42 → Puts (answeredText title reply answer) at before written out
-      → Closes (closed (brings e) (run .number) (run .unit)) at before after written out
-  closes-answered success {lent} {answer} p size puts =
-      closes-event e run after u ready is (p .unitIs) (answers-printed (performed e (run .unit)) e title (success (performed e (run .unit))) p)
-      (length-answered title short reply answer size (answers-within 42 p size)) puts
+-- the event that the code told
+pub performs-told : (kept bytes : List ℕ) {e known : code.Event} → e ≡ known → {u unit : TagUnit} {at written : ℕ} {before out : List ℕ}
+    → Performs (eventOf known kept bytes) u at before unit written out → Performs (eventOf e kept bytes) u at before unit written out
+performs-told kept bytes e p = rw e p
 
-  pub closes-settled : ((o : Outcome) (a : List ℕ) → successText e o a ≡ title) → Settles (performed e (run .unit)) u reply
-      → Puts (settledText title reply) at before written out → Closes (closed (brings e) (run .number) (run .unit)) at before after written out
-  closes-settled success p puts =
-      closes-event e run after u ready is (p .unitIs) (settles-printed (performed e (run .unit)) e title (success (performed e (run .unit))) p)
-      (length-settled title short reply) puts
+-- an event that was performed closes its line
+pub closes-event : {e : Event} {run after : Run} {unit : TagUnit} {at written : ℕ} {before out : List ℕ} → Ready run at before
+    → after ≡ moved next.Event unit run → Performs e (run .unit) at before unit written out → ClosesLine (brings e) run at before after written out
+unfolding closed
+closes-event ready is p =
+    record {
+      stateIs = rw (is, ready .going, p .unitIs, add-one);
+      sound = rw is (record { numbered = omega (arith, ready .counted); withinR = ready .sound .withinR });
+      few = p .few;
+      puts = p .puts;
+    }

@@ -17,20 +17,18 @@ use Rattle.replay.specs.Event.{malformedText}
 use Rattle.replay.specs.Replay.{judged, longestLine}
 use Rattle.replay.specs.Feeding.{State, reading, ended, Fed, fed, fedTo, byte, closed}
 use Rattle.replay.specs.Written.{Puts}
-use Rattle.replay.specs.Session.{SoundRun, Sound, stateWith, stateOf, expectedOf, lineRoom, Feeds}
+use Rattle.replay.specs.Session.{SoundRun, Sound, stateOf, expectedOf, lineRoom, Closes, Takes, Feeds}
 use Rattle.replay.proofs.Placed.{puts-then, puts-nothing, placed-first}
 use Rattle.replay.proofs.AnyPieces.{fed-append, fed-ended}
 
 -- after the first bytes of a piece
-pub record Passed (s : Session) (piece before : List ℕ) (run : Run) (written : ℕ) (line : List ℕ) (count taken : ℕ) (out : List ℕ) : Type 0 where
+pub record Passed (s : Session) (piece before : List ℕ) (session : Session) (written taken : ℕ) (out : List ℕ) : Type 0 where
   pub inPiece : taken ≤ length piece
-  pub stateIs : stateWith run (take count line) ≡ fed (take taken piece) (stateOf s) .state
+  pub stateIs : stateOf session ≡ fed (take taken piece) (stateOf s) .state
   pub puts : Puts (fed (take taken piece) (stateOf s) .printed) 0 before written out
   pub within : written ≤ length before
   pub kept : length out ≡ length before
-  pub sound : SoundRun run
-  pub lineLong : length line ≡ longestLine
-  pub short : count ≤ longestLine
+  pub sound : Sound session
 
 fed-next : (piece : List ℕ) (s : State) (i : ℕ) → i < length piece
     → fed (take (i + 1) piece) s
@@ -41,10 +39,9 @@ fed-next piece s i h =
     rw (add-one i, take-suc piece i 0 h) (fed-append (take i piece) (getD piece i 0 ∷ []) s ∙ rw append-nil)
 
 -- nothing is taken yet
-pub passed-none : (s : Session) (piece before : List ℕ) → SoundRun (s .run) → length (s .line) ≡ longestLine → s .count ≤ longestLine
-    → Passed s piece before (s .run) 0 (s .line) (s .count) 0 before
+pub passed-none : (s : Session) (piece before : List ℕ) → Sound s → Passed s piece before s 0 0 before
 unfolding fed
-passed-none s piece before sound long short =
+passed-none s piece before sound =
     record {
       inPiece = omega arith;
       stateIs = refl;
@@ -52,56 +49,29 @@ passed-none s piece before sound long short =
       within = omega arith;
       kept = refl;
       sound = sound;
-      lineLong = long;
-      short = short;
     }
 
--- a byte more
-pub passed-next : {s : Session} {piece before line out : List ℕ} {run : Run} {written count taken : ℕ}
-    → Passed s piece before run written line count taken out → taken < length piece
-    → {f : Fed} → byte (getD piece taken 0) (stateWith run (take count line)) ≡ f
-    → {run′ : Run} {written′ : ℕ} (line′ : List ℕ) (count′ : ℕ) {out′ : List ℕ}
-    → stateWith run′ (take count′ line′) ≡ f .state → Puts (f .printed) written out written′ out′ → written + length (f .printed) ≤ length before
-    → length out′ ≡ length before → SoundRun run′ → length line′ ≡ longestLine → count′ ≤ longestLine
-    → Passed s piece before run′ written′ line′ count′ (taken + 1) out′
-passed-next {s} {piece} {before} {line} {out} {run} {written} {count} {taken} p h {f} is {run′} {written′} line′ count′ {out′} state puts room long sound lineLong short =
-    let next : fed (take (taken + 1) piece) (stateOf s) ≡ fedTo (f .state) (fed (take taken piece) (stateOf s) .printed ++ f .printed) =
-    fed-next piece (stateOf s) taken h ∙ rw (← p .stateIs, is) in
-    record {
-      inPiece = omega arith;
-      stateIs = rw next state;
-      puts = rw next (puts-then (p .puts) puts (omega (arith, p .puts .nextIs, p .within)));
-      within = omega (arith, puts .nextIs);
-      kept = long;
-      sound = sound;
-      lineLong = lineLong;
-      short = short;
-    }
+module _ {s : Session} {piece before : List ℕ} {session : Session} {written taken : ℕ} {out : List ℕ}
+    (p : Passed s piece before session written taken out) where
+  -- a byte more
+  pub passed-next : taken < length piece → written + lineRoom ≤ length before → {session′ : Session} {written′ : ℕ} {out′ : List ℕ}
+      → Takes session (getD piece taken 0) written out session′ written′ out′ → length out′ ≡ length before
+      → Passed s piece before session′ written′ (taken + 1) out′
+  passed-next h room {session′} {written′} {out′} t long =
+      let f : Fed = byte (getD piece taken 0) (stateOf session) in
+      let next : fed (take (taken + 1) piece) (stateOf s) ≡ fedTo (f .state) (fed (take taken piece) (stateOf s) .printed ++ f .printed) =
+      fed-next piece (stateOf s) taken h ∙ rw (← p .stateIs) in
+      record {
+        inPiece = omega arith;
+        stateIs = rw next (t .stateIs);
+        puts = rw next (puts-then (p .puts) (t .puts) (omega (arith, p .puts .nextIs, p .within)));
+        within = omega (arith, t .puts .nextIs, t .few);
+        kept = long;
+        sound = t .sound;
+      }
 
--- what a byte does to a run that goes on
-module _ (run : Run) (part : List ℕ) (going : run .ended ≡ false) where
-  pub byte-closes : (b : ℕ) → b ≡ newline → byte b (stateWith run part) ≡ closed (judged (expectedOf run) (run .number) part) (run .number) (run .unit)
-  unfolding byte
-  byte-closes b e = rw (going, eq-eqb b newline e)
-
-  pub byte-grows : (b : ℕ) → (b ≡ newline → ⊥) → length part < longestLine
-      → byte b (stateWith run part) ≡ fedTo (reading (expectedOf run) (run .number) (run .unit) (part ++ (b ∷ []))) []
-  unfolding byte
-  byte-grows b e h = rw (going, ne-eqb b newline e, lt-ltb (length part) longestLine h)
-
-  pub byte-breaks : (b : ℕ) → (b ≡ newline → ⊥) → longestLine ≤ length part → byte b (stateWith run part) ≡ fedTo ended (malformedText (run .number))
-  unfolding byte
-  byte-breaks b e h = rw (going, ne-eqb b newline e, le-ltb (length part) longestLine h)
-
--- the line with a byte more
-pub grown : (run : Run) (line : List ℕ) (count b : ℕ) → run .ended ≡ false → count < length line
-    → stateWith run (take (count + 1) (set line count b)) ≡ reading (expectedOf run) (run .number) (run .unit) (take count line ++ (b ∷ []))
-grown run line count b going h = rw (going, add-one, take-suc-set line count b h)
-
--- what was taken is what `feed` promises
-module _ {s : Session} {piece before line out : List ℕ} {run : Run} {written count taken : ℕ} (p : Passed s piece before run written line count taken out) where
-  pub fed-so-far : (taken ≡ length piece) ⊎ (length before < written + lineRoom)
-      → Feeds s piece before (record { run = run; line = line; count = count }) taken written out
+  -- what was taken is what `feed` promises
+  pub fed-so-far : (taken ≡ length piece) ⊎ (length before < written + lineRoom) → Feeds s piece before session taken written out
   fed-so-far stop =
       let size : written ≡ length (fed (take taken piece) (stateOf s) .printed) = p .puts .nextIs ∙ zero-add _ in
       record {
@@ -109,12 +79,12 @@ module _ {s : Session} {piece before line out : List ℕ} {run : Run} {written c
         stateIs = p .stateIs;
         writtenIs = size;
         bytesAre = p .puts .bytesAre ∙ placed-first _ before ∙ rw size;
-        staysSound = λ _. record { soundRun = p .sound; withinLine = p .short };
+        staysSound = λ _. p .sound;
         goesOn = λ _. stop;
       }
 
   -- a run that has ended takes the rest and prints nothing
-  pub passed-ended : run .ended ≡ true → Passed s piece before run written line count (length piece) out
+  pub passed-ended : session .run .ended ≡ true → Passed s piece before session written (length piece) out
   passed-ended over =
       let state : fed (take taken piece) (stateOf s) .state ≡ ended = sym (p .stateIs) ∙ rw over in
       let rest : fed piece (stateOf s) ≡ fedTo ended (fed (take taken piece) (stateOf s) .printed) =
@@ -130,6 +100,42 @@ module _ {s : Session} {piece before line out : List ℕ} {run : Run} {written c
         within = p .within;
         kept = p .kept;
         sound = p .sound;
-        lineLong = p .lineLong;
-        short = p .short;
       }
+
+-- what a byte does to a session that goes on
+module _ (s : Session) (b : ℕ) (going : s .run .ended ≡ false) (long : length (s .line) ≡ longestLine) (short : s .count ≤ longestLine) where
+  sized : length (take (s .count) (s .line)) ≡ s .count
+  sized = length-take-le (s .count) (s .line) (omega arith)
+
+  pub byte-closes : b ≡ newline
+      → byte b (stateOf s) ≡ closed (judged (expectedOf (s .run)) (s .run .number) (take (s .count) (s .line))) (s .run .number) (s .run .unit)
+  unfolding byte
+  byte-closes e = rw (going, eq-eqb b newline e)
+
+  pub byte-breaks : (b ≡ newline → ⊥) → longestLine ≤ s .count → byte b (stateOf s) ≡ fedTo ended (malformedText (s .run .number))
+  unfolding byte
+  byte-breaks e h = rw (going, ne-eqb b newline e, sized, le-ltb (s .count) longestLine h)
+
+  pub takes-more : SoundRun (s .run) → (b ≡ newline → ⊥) → s .count < longestLine → (at : ℕ) (before : List ℕ)
+      → Takes s b at before (record { run = s .run; line = set (s .line) (s .count) b; count = s .count + 1 }) at before
+  unfolding byte
+  takes-more sound e h at before =
+      let grows : byte b (stateOf s) ≡ fedTo (reading (expectedOf (s .run)) (s .run .number) (s .run .unit) (take (s .count) (s .line) ++ (b ∷ []))) [] =
+      rw (going, ne-eqb b newline e, sized, lt-ltb (s .count) longestLine h) in
+      record {
+        stateIs = rw (grows, going, add-one, take-suc-set (s .line) (s .count) b (omega arith));
+        sound = record { soundRun = sound; withinLine = omega arith };
+        few = rw grows (omega arith);
+        puts = rw grows (puts-nothing at before);
+      }
+
+-- a byte that ends a line
+pub takes-line : {s : Session} {b : ℕ} {f : Fed} → byte b (stateOf s) ≡ f → {at : ℕ} {before : List ℕ} {run : Run} {written : ℕ} {after : List ℕ}
+    → Closes f at before run written after → (line : List ℕ) → Takes s b at before (record { run = run; line = line; count = 0 }) written after
+takes-line e c line =
+    record {
+      stateIs = rw e (c .stateIs);
+      sound = record { soundRun = c .sound; withinLine = omega arith };
+      few = rw e (c .few);
+      puts = rw e (c .puts);
+    }

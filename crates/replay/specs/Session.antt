@@ -4,6 +4,7 @@ use mathlib.Core.Path.{_≡_}
 use mathlib.Core.Bool.{Bool, true, false, cond}
 use mathlib.Core.List.{List, [], _∷_, _++_}
 use mathlib.Core.Logic.{_⊎_}
+use mathlib.Core.Option.{Option}
 use lib.Dec.{leb}
 use lib.ListN.{length, take, drop}
 use lib.IntN.{ℤ}
@@ -14,23 +15,28 @@ use Rattle.unit.specs.declared.Reply.the-variants as reply
 use Rattle.replay.specs.declared.Next.{Next}
 use Rattle.replay.specs.declared.Next.the-variants as next
 use Rattle.replay.specs.declared.Run.{Run}
-use Rattle.replay.specs.declared.lines.EventName.{EventName}
-use Rattle.replay.specs.declared.lines.EventName.the-variants as named
+use Rattle.replay.specs.declared.events.Event as code
+use Rattle.replay.specs.declared.events.Event.the-variants as event
+use Rattle.replay.specs.declared.lines.Line as lines
+use Rattle.replay.specs.declared.lines.Line.the-variants as told
+use Rattle.replay.specs.declared.lines.Told.{Told}
 use Rattle.replay.specs.declared.Session.{Session}
 use Rattle.replay.specs.declared.Finished.{Finished}
 use Rattle.replay.specs.declared.Finished.the-variants as finished
 use Rattle.replay.specs.Written.{Puts}
 use Rattle.replay.specs.Text.{ascii, decimal}
-use Rattle.replay.specs.Event.{button, frame, line, bytesText, notesText, refusedText}
-use Rattle.replay.specs.Replay.{named as namedOf, Line, follows, brings, breaks, Expected, power, components, volume, event, nonce, «data», tenths, on, level, keyBytes, r, id, longestLine, mostLines}
-use Rattle.replay.specs.Feeding.{State, reading, ended, Fed, fed, fedTo, finish}
+use Rattle.replay.specs.Event.{Event, read, write, elapsed, button, pairing, battery, key, identifier, frame, performed, printed, line, bytesText, notesText, refusedText}
+use Rattle.replay.specs.Reading.{after}
+use Rattle.replay.specs.Replay as replay
+use Rattle.replay.specs.Replay.{Line, follows, brings, settles, breaks, given, Expected, power, components, volume, nonce, «data», tenths, on, level, keyBytes, r, id, longestLine, mostLines}
+use Rattle.replay.specs.Feeding.{State, reading, ended, Fed, byte, fed, fedTo, finish, closed}
 
 -- what is expected, with what was read before it
 abbrev pub expecting : Next → ℤ → ℕ → List ℕ → Expected
 expecting next.Power p c b = power
 expecting next.Components p c b = components p
 expecting next.Volume p c b = volume p c
-expecting next.Event p c b = event
+expecting next.Event p c b = replay.event
 expecting next.Nonce p c b = nonce
 expecting next.Data p c b = «data»
 expecting next.Tenths p c b = tenths
@@ -52,7 +58,7 @@ stateOf s = stateWith (s .run) (take (s .count) (s .line))
 
 -- Counts within their rooms. Any record may be handed in; those of the code's own making are sound
 pub record SoundRun (run : Run) : Type 0 where
-  pub numbered : run .number ≤ 1000000
+  pub numbered : run .number ≤ mostLines + 1
   pub withinR : run .filled ≤ 128
 
 pub record Sound (s : Session) : Type 0 where
@@ -89,15 +95,51 @@ pub record Closing (run : Run) (line : List ℕ) (at : ℕ) (out : List ℕ) : T
   pub short : length line ≤ longestLine
   pub room : at + lineRoom ≤ length out
 
--- what a name asks for, whatever was read before
-abbrev pub namedLine : EventName → ℤ → ℕ → List ℕ → Line
-namedLine (named.Follows n) p c b = follows (expecting n p c b)
-namedLine named.Button p c b = brings button
-namedLine named.Frame p c b = brings frame
-namedLine named.Unknown p c b = breaks
+-- what an event of the code stands for, with an identifier's r and the bytes that stand beside it
+abbrev pub eventOf : code.Event → List ℕ → List ℕ → Event
+eventOf event.Read kept b = read b
+eventOf event.Write kept b = write b
+eventOf (event.Elapsed n) kept b = elapsed n
+eventOf event.Button kept b = button
+eventOf (event.Pairing flag) kept b = pairing flag
+eventOf (event.Battery n) kept b = battery n
+eventOf event.Key kept b = key b
+eventOf event.Identifier kept b = identifier kept b
+eventOf event.Frame kept b = frame
 
-pub record Names (text : List ℕ) (name : EventName) : Type 0 where
-  pub lineIs : (p : ℤ) (c : ℕ) (b : List ℕ) → namedLine name p c b ≡ namedOf text
+-- and a line of the code, with what was read before it and its bytes
+abbrev pub lineOf : lines.Line → ℤ → ℕ → List ℕ → List ℕ → Line
+lineOf (told.Power z) p c kept b = follows (components z)
+lineOf (told.Components n) p c kept b = follows (volume p n)
+lineOf (told.Volume n) p c kept b = settles p c n
+lineOf (told.Follows next) p c kept b = follows (expecting next p c kept)
+lineOf told.R p c kept b = follows (id b)
+lineOf (told.Brings e) p c kept b = brings (eventOf e kept b)
+lineOf told.Breaks p c kept b = breaks
+
+-- a line of the code stands for this one, whatever was read before
+pub record Means (l : Line) (line : lines.Line) : Type 0 where
+  pub lineIs : (p : ℤ) (c : ℕ) (kept b : List ℕ) → lineOf line p c kept b ≡ l
+
+-- the same of one that was read with its bytes
+pub record Says (l : ℤ → ℕ → List ℕ → Line) (t : Told) (bytes : List ℕ) : Type 0 where
+  pub lineIs : (p : ℤ) (c : ℕ) (kept : List ℕ) → lineOf (t .line) p c kept (take (t .count) bytes) ≡ l p c kept
+  pub withinRoom : t .count ≤ 128
+
+-- the line that a value behind a key makes
+module _ {A : Type 0} where
+  abbrev pub valueLine : List ℕ → (List ℕ → Option A) → (A → Line) → List ℕ → Line
+  valueLine name f g l = given (after name l) (λ v. given (f v) g)
+
+-- closing this line
+abbrev pub ClosesLine : Line → Run → ℕ → List ℕ → Run → ℕ → List ℕ → Type 0
+ClosesLine l run at before run′ written after = Closes (closed l (run .number) (run .unit)) at before run′ written after
+
+-- what performing an event promises
+pub record Performs (e : Event) (u : TagUnit) (at : ℕ) (before : List ℕ) (unit : TagUnit) (written : ℕ) (after : List ℕ) : Type 0 where
+  pub unitIs : unit ≡ performed e u .unit
+  pub few : length (printed e (performed e u) (performed e u .result)) ≤ lineRoom
+  pub puts : Puts (printed e (performed e u) (performed e u .result)) at before written after
 
 -- the run with the next line's number, what is expected there, and a unit
 abbrev pub moved : Next → TagUnit → Run → Run
@@ -134,9 +176,18 @@ abbrev pub repliesWithin : Reply → ℕ → Type 0
 repliesWithin (reply.Done n) room = n ≤ room
 repliesWithin (reply.Refused refusal) room = Unit
 
--- the state after an event
-abbrev pub afterEvent : ℕ → TagUnit → List ℕ → Fed
-afterEvent n u text = fedTo (reading event (n + 1) u []) text
+-- a session that reads on, with room for what a line prints
+pub record Awaits (s : Session) (at : ℕ) (out : List ℕ) : Type 0 where
+  pub going : s .run .ended ≡ false
+  pub sound : Sound s
+  pub room : at + lineRoom ≤ length out
+
+-- what taking a byte promises
+pub record Takes (s : Session) (b at : ℕ) (before : List ℕ) (session : Session) (written : ℕ) (after : List ℕ) : Type 0 where
+  pub stateIs : stateOf session ≡ byte b (stateOf s) .state
+  pub sound : Sound session
+  pub few : length (byte b (stateOf s) .printed) ≤ lineRoom
+  pub puts : Puts (byte b (stateOf s) .printed) at before written after
 
 -- What `feed` promises: how much of the piece it took and printed, the state after it, all of the lent bytes; and that it goes on while there is
 -- room, so that a caller's loop ends. A session that is not sound takes nothing

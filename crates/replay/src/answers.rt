@@ -13,11 +13,20 @@ ghost use mathlib.Core.List.{_++_};
 use crate::Progress;
 use crate::Run;
 use crate::text;
+use tag::Passed;
 use unit::Refusal;
 use unit::Reply;
+use unit::Step;
+use unit::TagUnit;
+
+// The unit after an event, and the next place.
+pub struct Performed {
+    pub unit: TagUnit,
+    pub written: usize,
+}
 
 // The number of a refusal in the paper's list.
-pub fn code(refusal: Refusal) -> u8
+fn code(refusal: Refusal) -> u8
     ensures { λ r. ⌜ r ≡ number refusal ⌝ }
 {
     match refusal {
@@ -90,24 +99,40 @@ fn success(out: &mut [u8], at: usize, title: &[u8], answer: &[u8], count: usize)
 }
 
 // The end of an event with answer bytes.
-pub fn answered(out: &mut [u8], at: usize, reply: Reply, title: &[u8], answer: &[u8]) -> usize
-    requires { ⌜ (length (now title) ≤ 32) × ((length (now answer) ≡ 42) × ((repliesWithin reply 42) × (at + 256 ≤ length (now out)))) ⌝ }
-    ensures { λ r. ⌜ Puts (answeredText (now (title .entry)) reply (now (answer .entry))) at (now (out .entry)) r (now (out .exit)) ⌝ }
+pub fn answered(step: Step, title: &[u8], answer: &[u8], out: &mut [u8], at: usize) -> Performed
+    requires { ⌜ (length (now title) ≤ 32) × ((length (now answer) ≡ 42) × ((repliesWithin (step .reply) 42) × (at + 256 ≤ length (now out)))) ⌝ }
+    ensures { λ r. ⌜ (r .unit ≡ step .unit) × Puts (answeredText (now (title .entry)) (step .reply) (now (answer .entry))) at (now (out .entry)) (r .written) (now (out .exit)) ⌝ }
 {
+    let unit = step.unit;
+    let reply = step.reply;
     match reply {
-        Reply::Done(n) => success(out, at, title, answer, n),
-        Reply::Refused(refusal) => refused(out, at, refusal),
+        Reply::Done(n) => Performed {
+            unit,
+            written: success(out, at, title, answer, n),
+        },
+        Reply::Refused(refusal) => Performed {
+            unit,
+            written: refused(out, at, refusal),
+        },
     }
 }
 
 // The end of an event without answer bytes.
-pub fn settled(out: &mut [u8], at: usize, reply: Reply, title: &[u8]) -> usize
+pub fn settled(step: Step, title: &[u8], out: &mut [u8], at: usize) -> Performed
     requires { ⌜ (length (now title) ≤ 32) × (at + 256 ≤ length (now out)) ⌝ }
-    ensures { λ r. ⌜ Puts (settledText (now (title .entry)) reply) at (now (out .entry)) r (now (out .exit)) ⌝ }
+    ensures { λ r. ⌜ (r .unit ≡ step .unit) × Puts (settledText (now (title .entry)) (step .reply)) at (now (out .entry)) (r .written) (now (out .exit)) ⌝ }
 {
+    let unit = step.unit;
+    let reply = step.reply;
     match reply {
-        Reply::Done(_) => text::put(out, at, title),
-        Reply::Refused(refusal) => refused(out, at, refusal),
+        Reply::Done(_) => Performed {
+            unit,
+            written: text::put(out, at, title),
+        },
+        Reply::Refused(refusal) => Performed {
+            unit,
+            written: refused(out, at, refusal),
+        },
     }
 }
 
@@ -144,19 +169,24 @@ fn elapsed(
     text::put(out, end, b"\n")
 }
 
-pub fn passed(
-    out: &mut [u8],
-    at: usize,
-    reply: Reply,
-    tenth: u32,
-    seconds: u32,
-    answer: &[u8],
-) -> usize
-    requires { ⌜ (length (now answer) ≡ 42) × ((repliesWithin reply 42) × (at + 256 ≤ length (now out))) ⌝ }
-    ensures { λ r. ⌜ Puts (passedText tenth seconds reply (now (answer .entry))) at (now (out .entry)) r (now (out .exit)) ⌝ }
+// The end of time.
+pub fn passed(p: Passed, answer: &[u8], out: &mut [u8], at: usize) -> Performed
+    requires { ⌜ (length (now answer) ≡ 42) × ((repliesWithin (p .reply) 42) × (at + 256 ≤ length (now out))) ⌝ }
+    ensures { λ r. ⌜ (r .unit ≡ p .unit) × Puts (passedText (p .ended) (p .unit .clock .seconds) (p .reply) (now (answer .entry))) at (now (out .entry)) (r .written) (now (out .exit)) ⌝ }
 {
+    let unit = p.unit;
+    let reply = p.reply;
     match reply {
-        Reply::Done(n) => elapsed(out, at, tenth, seconds, answer, n),
-        Reply::Refused(refusal) => refused(out, at, refusal),
+        Reply::Done(n) => {
+            let clock = unit.clock;
+            Performed {
+                unit,
+                written: elapsed(out, at, p.ended, clock.seconds, answer, n),
+            }
+        }
+        Reply::Refused(refusal) => Performed {
+            unit,
+            written: refused(out, at, refusal),
+        },
     }
 }

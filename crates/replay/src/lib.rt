@@ -1,21 +1,24 @@
 // The replay of a session file: from bytes to bytes, fed in pieces.
 ghost use mathlib.Core.Path.{_≡_};
 ghost use Rattle.replay.specs.Feeding.{first};
-ghost use Rattle.replay.specs.Session.{stateOf, Sound, SoundRun, SoundBy, Feeds, Finishes, eventNext};
-ghost use Prim.Native.Nat.{_≤_};
+ghost use Rattle.replay.specs.Session.{stateOf, Sound, SoundBy, Awaits, Takes, Feeds, Finishes, eventNext};
 use unit::TagUnit;
 
-pub mod answers;
-pub mod events;
-pub mod keyed;
-pub mod lines;
-pub mod reading;
-pub mod text;
+mod answers;
+mod closing;
+mod events;
+mod keyed;
+mod lines;
+mod reading;
+mod text;
 
 // The longest line, without its newline.
 pub const LONGEST_LINE: usize = 256;
 
+// The last line has this number; where it was read, the run goes on to the next.
 pub const MOST_LINES: u32 = 999999;
+
+const LAST_NUMBER: u32 = MOST_LINES + 1;
 
 // Room that holds what any one line prints.
 pub const LINE_ROOM: usize = 256;
@@ -62,6 +65,12 @@ pub struct Session {
     pub count: usize,
 }
 
+// A session after one byte, and the next place of what it writes.
+pub struct After {
+    pub session: Session,
+    pub written: usize,
+}
+
 // How far a piece was taken.
 pub struct Fed {
     pub session: Session,
@@ -106,16 +115,14 @@ pub fn begin() -> Session
 pub fn feed(s: Session, piece: &[u8], out: &mut [u8]) -> Fed
     ensures { λ r. ⌜ Feeds s (now (piece .entry)) (now (out .entry)) (r .session) (r .taken) (r .written) (now (out .exit)) ⌝ }
 {
-    if !sound(s) {
-        return Fed {
-            session: s,
-            taken: 0,
-            written: 0,
-        };
+    if sound(s) {
+        return take(s, piece, out);
     }
-    let start = s.run;
-    let line = s.line;
-    take(start, line, s.count, piece, out)
+    Fed {
+        session: s,
+        taken: 0,
+        written: 0,
+    }
 }
 
 fn sound(s: Session) -> bool
@@ -125,60 +132,82 @@ fn sound(s: Session) -> bool
     if LONGEST_LINE < s.count {
         return false;
     }
-    if 1000000 < run.number {
+    if LAST_NUMBER < run.number {
         return false;
     }
     run.filled <= 128
 }
 
-// The bytes of a piece, one after another. The line so far is kept apart from the run.
-fn take(start: Run, first: [u8; 256], held: usize, piece: &[u8], out: &mut [u8]) -> Fed
-    requires { ⌜ (SoundRun start) × (held ≤ 256) ⌝ }
-    ensures { λ r. ⌜ Feeds (record { run = start; line = first; count = held }) (now (piece .entry)) (now (out .entry)) (r .session) (r .taken) (r .written) (now (out .exit)) ⌝ }
+// The bytes of a piece, one after another.
+fn take(start: Session, piece: &[u8], out: &mut [u8]) -> Fed
+    requires { ⌜ Sound start ⌝ }
+    ensures { λ r. ⌜ Feeds start (now (piece .entry)) (now (out .entry)) (r .session) (r .taken) (r .written) (now (out .exit)) ⌝ }
 {
-    let mut progress = Progress {
-        run: start,
-        written: 0,
-    };
-    let mut line = first;
-    let mut count = held;
+    let mut session = start;
+    let mut written = 0;
     let mut taken = 0;
     while taken < piece.len() {
-        if progress.run.ended {
-            let run = progress.run;
+        if session.run.ended {
             return Fed {
-                session: Session { run, line, count },
+                session,
                 taken: piece.len(),
-                written: progress.written,
+                written,
             };
         }
-        if out.len() - progress.written < LINE_ROOM {
+        if out.len() - written < LINE_ROOM {
             break;
         }
-        let b = piece[taken];
-        if b == NEWLINE {
-            let run = progress.run;
-            let closed = lines::close(run, &line[..count], out, progress.written);
-            progress = closed;
-            count = 0;
-            taken += 1;
-        } else if count < LONGEST_LINE {
-            line[count] = b;
-            count += 1;
-            taken += 1;
-        } else {
-            let run = progress.run;
-            let ended = answers::breaks(run, out, progress.written);
-            progress = ended;
-            count = 0;
-            taken += 1;
-        }
+        let after = byte(session, piece[taken], out, written);
+        let next = after.session;
+        session = next;
+        written = after.written;
+        taken += 1;
     }
-    let run = progress.run;
     Fed {
-        session: Session { run, line, count },
+        session,
         taken,
-        written: progress.written,
+        written,
+    }
+}
+
+// One byte. A line that has grown too long is malformed at once.
+fn byte(s: Session, b: u8, out: &mut [u8], at: usize) -> After
+    requires { ⌜ Awaits s at (now out) ⌝ }
+    ensures { λ r. ⌜ Takes s b at (now (out .entry)) (r .session) (r .written) (now (out .exit)) ⌝ }
+{
+    let run = s.run;
+    let mut line = s.line;
+    let count = s.count;
+    if b == NEWLINE {
+        let closed = closing::close(run, &line[..count], out, at);
+        return opened(closed, line);
+    }
+    if count < LONGEST_LINE {
+        line[count] = b;
+        return After {
+            session: Session {
+                run,
+                line,
+                count: count + 1,
+            },
+            written: at,
+        };
+    }
+    opened(answers::breaks(run, out, at), line)
+}
+
+// The next line, with nothing of it read yet.
+fn opened(p: Progress, line: [u8; 256]) -> After
+    ensures { λ r. ⌜ r ≡ record { session = record { run = p .run; line = line; count = 0 }; written = p .written } ⌝ }
+{
+    let run = p.run;
+    After {
+        session: Session {
+            run,
+            line,
+            count: 0,
+        },
+        written: p.written,
     }
 }
 

@@ -1,9 +1,7 @@
 -- `replay::answers::answered` meets its contract, a case of the reply each. Assumes nothing.
-use native.Mathlib.Omega.{arith}
-use mathlib.Core.Path.{sym}
-use Prim.Native.Nat.{_≤_}
-use Rattle.replay.specs.Session.{repliesWithin, answeredText}
 use borrow.Author.Needs.{needs}
+use mathlib.Core.Path.{refl}
+use native.Mathlib.Omega.{arith}
 use Rattle.replay.proofs.answers.answered.Statement.{statement}
 use Rattle.replay.proofs.answers.answered.Tie as tie
 use Rattle.replay.proofs.answers.answered.Reads as reads
@@ -16,7 +14,7 @@ enum-known-reply c = search needs
 
 success-requires : tie.Need-success-requires
 success-requires c κs =
-    let within = rw (c .before .before .reply .given .1) at (c .before .before .before .before .before .before .before .pre .1 .1 .0) in
+    let within = rw (c .before .before .reply .given .1) at (c .before .before .before .before .before .before .before .before .pre .1 .1 .0) in
     (omega arith, (omega arith, (within, omega arith)))
 
 enum-known-reply-2 : tie.Need-enum-known-reply-2
@@ -29,13 +27,13 @@ same-length : tie.Need-same-length
 same-length c = search needs
 
 returns : tie.Need-returns
-returns c = rw (c .before .before .before .before .before .reply .given .1) (c .before .before .success .ensures)
+returns c = (refl, rw (c .before .before .before .before .before .reply .given .1) (c .before .before .success .ensures))
 
 same-length-2 : tie.Need-same-length-2
 same-length-2 c = search needs
 
 returns-2 : tie.Need-returns-2
-returns-2 c = rw (c .before .before .before .before .before .reply2 .given .1) (c .before .before .refused .ensures)
+returns-2 c = (refl, rw (c .before .before .before .before .before .reply2 .given .1) (c .before .before .refused .ensures))
 
 pub answered-spec : {M : Type 1} → statement M
 answered-spec =

@@ -1,5 +1,6 @@
 -- `replay::answers::settled` meets its contract, a case of the reply each. Assumes nothing.
 use borrow.Author.Needs.{needs}
+use mathlib.Core.Path.{refl}
 use Rattle.replay.proofs.answers.settled.Statement.{statement}
 use Rattle.replay.proofs.answers.settled.Tie as tie
 use Rattle.replay.proofs.answers.settled.Reads as reads
@@ -23,13 +24,13 @@ same-length : tie.Need-same-length
 same-length c = search needs
 
 returns : tie.Need-returns
-returns c = rw (c .before .before .before .before .enum-told .given .1) (c .before .before .put .ensures)
+returns c = (refl, rw (c .before .before .before .before .enum-told .given .1) (c .before .before .put .ensures))
 
 same-length-2 : tie.Need-same-length-2
 same-length-2 c = search needs
 
 returns-2 : tie.Need-returns-2
-returns-2 c = rw (c .before .before .before .before .before .reply .given .1) (c .before .before .refused .ensures)
+returns-2 c = (refl, rw (c .before .before .before .before .before .reply .given .1) (c .before .before .refused .ensures))
 
 pub settled-spec : {M : Type 1} → statement M
 settled-spec =

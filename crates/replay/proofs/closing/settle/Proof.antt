@@ -1,4 +1,4 @@
--- `replay::lines::settle` meets its contract: accepted settings print nothing, refused ones end the run. Assumes nothing.
+-- `replay::closing::settle` meets its contract: accepted settings print nothing, refused ones end the run. Assumes nothing.
 use mathlib.Core.Path.{subst, _≡_, refl, sym, ap, _∙_}
 use lib.IntN.{ℤ}
 use mir.Syntax.{w32}
@@ -14,12 +14,12 @@ use Rattle.tag.specs.Calls.{newUnit}
 use Rattle.replay.specs.Feeding.{closed}
 use Rattle.replay.proofs.Placed.{puts-nothing}
 use Rattle.replay.proofs.Texts.{length-refused}
-use Rattle.replay.proofs.lines.settle.Statement.{statement}
-use Rattle.replay.proofs.lines.settle.Tie as tie
-use Rattle.replay.proofs.lines.settle.Reads as reads
-use Rattle.replay.proofs.lines.settle.Lts as lts
+use Rattle.replay.proofs.closing.settle.Statement.{statement}
+use Rattle.replay.proofs.closing.settle.Tie as tie
+use Rattle.replay.proofs.closing.settle.Reads as reads
+use Rattle.replay.proofs.closing.settle.Lts as lts
 use Rattle.replay.proofs.answers.refused.Reads as refused-reads
-use Rattle.replay.proofs.events.advance.Reads as advance-reads
+use Rattle.replay.proofs.closing.advance.Reads as advance-reads
 
 -- a power in a record fits its bits
 power-kept : (c : tie.After-struct-told) → toZ w32 (ofZ w32 (c .before .before .args .run .power)) ≡ c .before .before .args .run .power

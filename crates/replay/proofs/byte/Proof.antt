@@ -1,0 +1,96 @@
+-- `replay::byte` meets its contract: a newline closes the line, another byte makes it longer or too long. Assumes nothing.
+use Rattle.replay.proofs.Pieces.{byte-closes, byte-breaks, takes-more, takes-line}
+use borrow.Author.Needs.{needs}
+use lib.ListN.{length, take}
+use lib.Seq.{length-take-le}
+use mathlib.Core.Path.{_≡_, sym}
+use native.Mathlib.Omega.{arith}
+use Rattle.replay.proofs.byte.Statement.{statement}
+use Rattle.replay.proofs.byte.Tie as tie
+use Rattle.replay.proofs.byte.Reads as reads
+use Rattle.replay.proofs.byte.Lts as lts
+use Rattle.replay.proofs.answers.breaks.Reads as breaks-reads
+use Rattle.replay.proofs.closing.close.Reads as close-reads
+use Rattle.replay.proofs.opened.Reads as opened-reads
+
+line-long : (c : tie.Start) → length (c .args .s .line) ≡ 256
+line-long c = search needs
+
+array-share-prefix-line : tie.Need-array-share-prefix-line
+array-share-prefix-line c =
+    let long = line-long (c .before .before .before .before) in
+    omega (arith, c .before .before .before .before .pre .sound .withinLine)
+
+slice-aggregate-close : tie.Need-slice-aggregate-close
+slice-aggregate-close c =
+    let s = c .before .before .before .before .before .args .s in
+    let long = line-long (c .before .before .before .before .before) in
+    sym (length-take-le (s .count) (s .line) (omega (arith, c .before .before .before .before .before .pre .sound .withinLine)))
+
+close-requires : tie.Need-close-requires
+close-requires c κs =
+    let s = c .before .before .before .before .before .before .args .s in
+    let ready = c .before .before .before .before .before .before .pre in
+    let long = line-long (c .before .before .before .before .before .before) in
+    let size = length-take-le (s .count) (s .line) (omega (arith, ready .sound .withinLine)) in
+    record { going = ready .going; sound = ready .sound .soundRun; short = omega (arith, size, ready .sound .withinLine); room = omega (arith, ready .room) }
+
+opened-requires : tie.Need-opened-requires
+opened-requires c κs = search needs
+
+same-length : tie.Need-same-length
+same-length c = search needs
+
+returns : tie.Need-returns
+returns c =
+    let s = c .before .before .before .before .before .before .before .before .before .before .args .s in
+    let ready = c .before .before .before .before .before .before .before .before .before .before .pre in
+    let long = line-long (c .before .before .before .before .before .before .before .before .before .before) in
+    rw (c .opened .ensures) (takes-line (byte-closes s (c .before .before .before .before .before .before .before .before .before .before .args .b) (ready .going) long (ready .sound .withinLine) (c .before .before .before .before .before .before .if1 .taken)) (c .before .before .before .close .ensures) (s .line))
+
+array-write-line : tie.Need-array-write-line
+array-write-line c = search needs
+
+add-t18 : tie.Need-add-t18
+add-t18 c = search needs
+
+returns-2 : tie.Need-returns-2
+returns-2 c =
+    let s = c .before .before .before .before .before .args .s in
+    let ready = c .before .before .before .before .before .pre in
+    let long = line-long (c .before .before .before .before .before) in
+    takes-more s (c .before .before .before .before .before .args .b) (ready .going) long (ready .sound .withinLine) (ready .sound .soundRun) (c .before .if1 .left) (c .if2 .taken) _ _
+
+breaks-requires : tie.Need-breaks-requires
+breaks-requires c κs = search needs
+
+opened-requires-2 : tie.Need-opened-requires-2
+opened-requires-2 c κs = search needs
+
+same-length-2 : tie.Need-same-length-2
+same-length-2 c = search needs
+
+returns-3 : tie.Need-returns-3
+returns-3 c =
+    let s = c .before .before .before .before .before .before .before .before .before .before .args .s in
+    let ready = c .before .before .before .before .before .before .before .before .before .before .pre in
+    let long = line-long (c .before .before .before .before .before .before .before .before .before .before) in
+    rw (c .opened2 .ensures) (takes-line (byte-breaks s (c .before .before .before .before .before .before .before .before .before .before .args .b) (ready .going) long (ready .sound .withinLine) (c .before .before .before .before .before .before .if1 .left) (c .before .before .before .before .before .if2 .left)) (c .before .before .before .breaks .ensures) (s .line))
+
+pub byte-spec : {M : Type 1} → statement M
+byte-spec =
+    tie.close
+    (tie.spec
+    array-share-prefix-line
+    slice-aggregate-close
+    close-requires
+    opened-requires
+    same-length
+    returns
+    array-write-line
+    add-t18
+    returns-2
+    breaks-requires
+    opened-requires-2
+    same-length-2
+    returns-3)

@@ -1,0 +1,134 @@
+// Closing a line: what it does to the run.
+ghost use mathlib.Core.Path.{_≡_};
+ghost use Prim.Native.Nat.{_≤_};
+ghost use lib.ListN.{take};
+ghost use Rattle.replay.specs.Replay as replay;
+ghost use Rattle.replay.specs.Session.{Ready, Closing, ClosesLine, expectedOf, moved, lineOf, eventOf};
+use crate::MOST_LINES;
+use crate::Next;
+use crate::Progress;
+use crate::Run;
+use crate::answers;
+use crate::events;
+use crate::events::Event;
+use crate::lines;
+use crate::lines::Line;
+use unit::Reply;
+use unit::TagUnit;
+
+// A line is closed.
+pub fn close(run: Run, line: &[u8], out: &mut [u8], at: usize) -> Progress
+    requires { ⌜ Closing run (now line) at (now out) ⌝ }
+    ensures { λ r. ⌜ ClosesLine (replay.judged (expectedOf run) (run .number) (now (line .entry))) run at (now (out .entry)) (r .run) (r .written) (now (out .exit)) ⌝ }
+{
+    if MOST_LINES < run.number {
+        return answers::breaks(run, out, at);
+    }
+    let mut bytes = [0u8; 128];
+    let next = run.next;
+    let told = lines::read(next, line, &mut bytes);
+    let what = told.line;
+    act(run, what, bytes, told.count, out, at)
+}
+
+// What a line that was read does.
+fn act(run: Run, what: Line, bytes: [u8; 128], count: usize, out: &mut [u8], at: usize) -> Progress
+    requires { ⌜ (Ready run at (now out)) × (count ≤ 128) ⌝ }
+    ensures { λ r. ⌜ ClosesLine (lineOf what (run .power) (run .components) (take (run .filled) (run .r)) (take count bytes)) run at (now (out .entry)) (r .run) (r .written) (now (out .exit)) ⌝ }
+{
+    match what {
+        Line::Power(p) => {
+            let mut read = run;
+            read.power = p;
+            follow(read, Next::Components, at)
+        }
+        Line::Components(n) => {
+            let mut read = run;
+            read.components = n;
+            follow(read, Next::Volume, at)
+        }
+        Line::Volume(selectable) => settle(run, selectable, out, at),
+        Line::Follows(next) => follow(run, next, at),
+        Line::R => {
+            let mut read = run;
+            read.r = bytes;
+            read.filled = count;
+            follow(read, Next::Id, at)
+        }
+        Line::Brings(event) => bring(run, event, &bytes[..count], out, at),
+        Line::Breaks => answers::breaks(run, out, at),
+    }
+}
+
+// The run with the next line's number, what is expected there, and a unit.
+fn advance(run: Run, next: Next, unit: TagUnit) -> Run
+    requires { ⌜ run .number ≤ replay.mostLines ⌝ }
+    ensures { λ r. ⌜ r ≡ moved next unit run ⌝ }
+{
+    let r = run.r;
+    Run {
+        ended: run.ended,
+        next,
+        number: run.number + 1,
+        power: run.power,
+        components: run.components,
+        r,
+        filled: run.filled,
+        unit,
+    }
+}
+
+// The same unit at the next line.
+fn follow(run: Run, next: Next, at: usize) -> Progress
+    requires { ⌜ run .number ≤ replay.mostLines ⌝ }
+    ensures { λ r. ⌜ (r .run ≡ moved next (run .unit) run) × (r .written ≡ at) ⌝ }
+{
+    let unit = run.unit;
+    Progress {
+        run: advance(run, next, unit),
+        written: at,
+    }
+}
+
+// The settings are read: a new unit, or its refusal, which ends the run.
+fn settle(run: Run, selectable: u32, out: &mut [u8], at: usize) -> Progress
+    requires { ⌜ Ready run at (now out) ⌝ }
+    ensures { λ r. ⌜ ClosesLine (replay.settles (run .power) (run .components) selectable) run at (now (out .entry)) (r .run) (r .written) (now (out .exit)) ⌝ }
+{
+    let step = tag::new_unit(run.power, run.components, selectable);
+    let reply = step.reply;
+    match reply {
+        Reply::Done(_) => {
+            let unit = step.unit;
+            Progress {
+                run: advance(run, Next::Event, unit),
+                written: at,
+            }
+        }
+        Reply::Refused(refusal) => {
+            let written = answers::refused(out, at, refusal);
+            let mut after = run;
+            after.ended = true;
+            Progress {
+                run: after,
+                written,
+            }
+        }
+    }
+}
+
+// A whole event.
+fn bring(run: Run, event: Event, bytes: &[u8], out: &mut [u8], at: usize) -> Progress
+    requires { ⌜ Ready run at (now out) ⌝ }
+    ensures { λ r. ⌜ ClosesLine (replay.brings (eventOf event (take (run .filled) (run .r)) (now (bytes .entry)))) run at (now (out .entry)) (r .run) (r .written) (now (out .exit)) ⌝ }
+{
+    let u = run.unit;
+    let r = run.r;
+    let filled = run.filled;
+    let done = events::perform(u, event, &r[..filled], bytes, out, at);
+    let unit = done.unit;
+    Progress {
+        run: advance(run, Next::Event, unit),
+        written: done.written,
+    }
+}
