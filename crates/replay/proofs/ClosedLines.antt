@@ -29,7 +29,7 @@ use Rattle.replay.specs.Reading.{after}
 use Rattle.replay.specs.Values.{behind, readIn}
 use Rattle.replay.specs.Replay.{Expected, event, Line, follows, breaks, given, taken, judged, longestLine, mostLines}
 use Rattle.replay.specs.Feeding.{State, reading, ended, Fed, fedTo, closed, beginning}
-use Rattle.replay.specs.Session.{SoundRun, Closes, ClosesLine, stateWith, moved, expecting, expectedOf, lineOf, valueLine, Means, Says}
+use Rattle.replay.specs.Session.{SoundRun, Closes, ClosesLine, stateWith, moved, expecting, expectedOf, lineOf, Means, Says, SaysNumber}
 use Rattle.replay.proofs.Placed.{puts-nothing}
 
 -- a value behind its key makes the line that it should
@@ -42,31 +42,14 @@ value-line {A} of key f g l {r} {told} is e = ap (λ (x : _). given (of x) g) (s
     go none = refl
     go (some v) = refl
 
--- the line that the code tells of a value, if there is one
-abbrev pub toldOf : {A : Type 0} → Option A → (A → lines.Line) → lines.Line
-toldOf none means = told.Breaks
-toldOf (some a) means = means a
-
-told-given : {A : Type 0} (o : Option A) (means : A → lines.Line) (p : ℤ) (c : ℕ) (kept : List ℕ)
-    → lineOf (toldOf o means) p c kept [] ≡ given o (λ a. lineOf (means a) p c kept [])
-told-given none means p c kept = refl
-told-given (some a) means p c kept = refl
-
--- a line that was read without bytes says what its value makes of it
-pub says-value : {A R : Type 0} (of : R → Option A) (key : List ℕ) (f : List ℕ → Option A) (means : A → lines.Line) (l : List ℕ) {r known : R}
-    → of r ≡ behind key f l → r ≡ known → {t : Told} {into : List ℕ} → (t .line ≡ toldOf (of known) means) × (t .count ≡ 0)
-    → Says (λ p c kept. valueLine key f (λ a. lineOf (means a) p c kept []) l) t into
-says-value of key f means l {r} {known} is e same =
-    record {
-      lineIs =
-          λ p c kept.
-          rw (same .0, same .1) (told-given (of known) means p c kept ∙ value-line of key f (λ a. lineOf (means a) p c kept []) l is e);
-      withinRoom = omega (arith, same .1);
-    }
-
-pub says-plain : {l : Line} {line : lines.Line} → Means l line → {t : Told} {into : List ℕ} → (t .line ≡ line) × (t .count ≡ 0)
+-- a line that is whole by itself
+pub says-plain : {l : Line} {line : lines.Line} → Means l line → {t : Told} {into : List ℕ} → t ≡ record { line = line; number = 0; count = 0 }
     → Says (λ p c kept. l) t into
-says-plain m same = record { lineIs = λ p c kept. rw (same .0) (m .lineIs p c kept _); withinRoom = omega (arith, same .1) }
+says-plain m same = rw same (record { lineIs = λ p c kept. m .lineIs p c kept 0 []; withinRoom = omega arith })
+
+-- one with its number
+pub says-number : {l : ℤ → ℕ → List ℕ → Line} {t : Told} {into : List ℕ} → SaysNumber l t → Says l t into
+says-number s = record { lineIs = λ p c kept. rw (s .noBytes) (s .lineIs p c kept); withinRoom = omega (arith, s .noBytes) }
 
 -- what was expected there
 pub says-at : {next known : Next} (l : List ℕ) → next ≡ known → {t : Told} {into : List ℕ}
@@ -74,10 +57,10 @@ pub says-at : {next known : Next} (l : List ℕ) → next ≡ known → {t : Tol
 says-at l e s = rw e s
 
 -- the line that the code told
-pub closes-told : (run : Run) (bytes : List ℕ) {what known : lines.Line} → what ≡ known → {at written : ℕ} {before out : List ℕ} {after : Run}
-    → ClosesLine (lineOf known (run .power) (run .components) (take (run .filled) (run .r)) bytes) run at before after written out
-    → ClosesLine (lineOf what (run .power) (run .components) (take (run .filled) (run .r)) bytes) run at before after written out
-closes-told run bytes e p = rw e p
+pub closes-told : (run : Run) (n : ℕ) (bytes : List ℕ) {what known : lines.Line} → what ≡ known → {at written : ℕ} {before out : List ℕ} {after : Run}
+    → ClosesLine (lineOf known (run .power) (run .components) (take (run .filled) (run .r)) n bytes) run at before after written out
+    → ClosesLine (lineOf what (run .power) (run .components) (take (run .filled) (run .r)) n bytes) run at before after written out
+closes-told run n bytes e p = rw e p
 
 module _ (n : ℕ) (u : TagUnit) {at written : ℕ} {before : List ℕ} {run : Run} where
   pub closes-as : {l l′ : Line} {out : List ℕ} → l ≡ l′ → Closes (closed l n u) at before run written out → Closes (closed l′ n u) at before run written out

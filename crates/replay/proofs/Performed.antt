@@ -15,14 +15,13 @@ use Rattle.unit.specs.declared.Reply.{Reply}
 use Rattle.unit.specs.declared.Reply.the-variants.{Done, Refused}
 use Rattle.tag.specs.Passes.{Passes}
 use Rattle.replay.specs.declared.Run.{Run}
-use Rattle.replay.specs.declared.events.Event as code
 use Rattle.replay.specs.declared.Next.the-variants as next
 use Rattle.replay.specs.Event.{Event, performed, printed, successText, bytesText, refusedText, notesText, elapsed}
 use Rattle.replay.specs.Text.{ascii, decimal, newline}
 use Rattle.replay.specs.Replay.{brings}
 use Rattle.replay.specs.Feeding.{closed}
 use Rattle.replay.specs.Written.{Puts}
-use Rattle.replay.specs.Session.{eventOf, Ready, ClosesLine, Performs, moved, answeredText, settledText, passedText, elapsedText, repliesWithin, lineRoom}
+use Rattle.replay.specs.Session.{Ready, ClosesLine, Performs, moved, answeredText, settledText, passedText, elapsedText, repliesWithin, lineRoom}
 use Rattle.replay.proofs.Texts.{length-bytes, length-refused, length-notes}
 use Rattle.replay.proofs.Decimal.{length-decimal}
 
@@ -141,11 +140,6 @@ performs-passed n u {unit} {unit′} {reply} {tenth} {at} {written} {lent} {answ
       few = rw prints at (length-passed tenth (unit .clock .seconds) reply answer size (answers-within 42 (p .answers) size));
       puts = rw prints at (done .1);
     }
-
--- the event that the code told
-pub performs-told : (kept bytes : List ℕ) {e known : code.Event} → e ≡ known → {u unit : TagUnit} {at written : ℕ} {before out : List ℕ}
-    → Performs (eventOf known kept bytes) u at before unit written out → Performs (eventOf e kept bytes) u at before unit written out
-performs-told kept bytes e p = rw e p
 
 -- an event that was performed closes its line
 pub closes-event : {e : Event} {run after : Run} {unit : TagUnit} {at written : ℕ} {before out : List ℕ} → Ready run at before

@@ -15,6 +15,10 @@ use Rattle.unit.specs.declared.Reply.the-variants as reply
 use Rattle.replay.specs.declared.Next.{Next}
 use Rattle.replay.specs.declared.Next.the-variants as next
 use Rattle.replay.specs.declared.Run.{Run}
+use Rattle.replay.specs.declared.events.Ask.{Ask}
+use Rattle.replay.specs.declared.events.Ask.the-variants as ask
+use Rattle.replay.specs.declared.events.Setting.{Setting}
+use Rattle.replay.specs.declared.events.Setting.the-variants as setting
 use Rattle.replay.specs.declared.events.Event as code
 use Rattle.replay.specs.declared.events.Event.the-variants as event
 use Rattle.replay.specs.declared.lines.Line as lines
@@ -95,35 +99,45 @@ pub record Closing (run : Run) (line : List ℕ) (at : ℕ) (out : List ℕ) : T
   pub short : length line ≤ longestLine
   pub room : at + lineRoom ≤ length out
 
--- what an event of the code stands for, with an identifier's r and the bytes that stand beside it
-abbrev pub eventOf : code.Event → List ℕ → List ℕ → Event
-eventOf event.Read kept b = read b
-eventOf event.Write kept b = write b
-eventOf (event.Elapsed n) kept b = elapsed n
-eventOf event.Button kept b = button
-eventOf (event.Pairing flag) kept b = pairing flag
-eventOf (event.Battery n) kept b = battery n
-eventOf event.Key kept b = key b
-eventOf event.Identifier kept b = identifier kept b
-eventOf event.Frame kept b = frame
+-- what an event of the code stands for, with its number, an identifier's r, and its bytes, which stand beside it
+abbrev pub askOf : Ask → List ℕ → Event
+askOf ask.Read b = read b
+askOf ask.Write b = write b
+askOf ask.Button b = button
+askOf ask.Frame b = frame
 
--- and a line of the code, with what was read before it and its bytes
-abbrev pub lineOf : lines.Line → ℤ → ℕ → List ℕ → List ℕ → Line
-lineOf (told.Power z) p c kept b = follows (components z)
-lineOf (told.Components n) p c kept b = follows (volume p n)
-lineOf (told.Volume n) p c kept b = settles p c n
-lineOf (told.Follows next) p c kept b = follows (expecting next p c kept)
-lineOf told.R p c kept b = follows (id b)
-lineOf (told.Brings e) p c kept b = brings (eventOf e kept b)
-lineOf told.Breaks p c kept b = breaks
+abbrev pub settingOf : Setting → ℕ → List ℕ → List ℕ → Event
+settingOf (setting.Pairing flag) n kept b = pairing flag
+settingOf setting.Battery n kept b = battery n
+settingOf setting.Key n kept b = key b
+settingOf setting.Identifier n kept b = identifier kept b
 
--- a line of the code stands for this one, whatever was read before
+abbrev pub eventOf : code.Event → ℕ → List ℕ → List ℕ → Event
+eventOf (event.Asks a) n kept b = askOf a b
+eventOf (event.Sets s) n kept b = settingOf s n kept b
+eventOf event.Elapsed n kept b = elapsed n
+
+-- and a line of the code, with what was read before it, its number and its bytes
+abbrev pub lineOf : lines.Line → ℤ → ℕ → List ℕ → ℕ → List ℕ → Line
+lineOf (told.Power z) p c kept n b = follows (components z)
+lineOf told.Components p c kept n b = follows (volume p n)
+lineOf told.Volume p c kept n b = settles p c n
+lineOf (told.Follows next) p c kept n b = follows (expecting next p c kept)
+lineOf told.R p c kept n b = follows (id b)
+lineOf (told.Brings e) p c kept n b = brings (eventOf e n kept b)
+lineOf told.Breaks p c kept n b = breaks
+
+-- a line of the code stands for this one, whatever was read before and stands beside it
 pub record Means (l : Line) (line : lines.Line) : Type 0 where
-  pub lineIs : (p : ℤ) (c : ℕ) (kept b : List ℕ) → lineOf line p c kept b ≡ l
+  pub lineIs : (p : ℤ) (c : ℕ) (kept : List ℕ) (n : ℕ) (b : List ℕ) → lineOf line p c kept n b ≡ l
 
--- the same of one that was read with its bytes
+-- the same of one with its number, and of one with its bytes
+pub record SaysNumber (l : ℤ → ℕ → List ℕ → Line) (t : Told) : Type 0 where
+  pub lineIs : (p : ℤ) (c : ℕ) (kept : List ℕ) → lineOf (t .line) p c kept (t .number) [] ≡ l p c kept
+  pub noBytes : t .count ≡ 0
+
 pub record Says (l : ℤ → ℕ → List ℕ → Line) (t : Told) (bytes : List ℕ) : Type 0 where
-  pub lineIs : (p : ℤ) (c : ℕ) (kept : List ℕ) → lineOf (t .line) p c kept (take (t .count) bytes) ≡ l p c kept
+  pub lineIs : (p : ℤ) (c : ℕ) (kept : List ℕ) → lineOf (t .line) p c kept (t .number) (take (t .count) bytes) ≡ l p c kept
   pub withinRoom : t .count ≤ 128
 
 -- the line that a value behind a key makes

@@ -46,19 +46,15 @@ pub fn refused(out: &mut [u8], at: usize, refusal: Refusal) -> usize
     requires { ⌜ at + 256 ≤ length (now out) ⌝ }
     ensures { λ r. ⌜ Puts (refusedText (number refusal)) at (now (out .entry)) r (now (out .exit)) ⌝ }
 {
-    let next = text::put(out, at, b"answer=refused\ncode=");
     let one = [code(refusal)];
-    let end = text::hex(out, next, &one);
-    text::put(out, end, b"\n")
+    text::hex_line(out, at, b"answer=refused\ncode=", &one)
 }
 
 pub fn malformed(out: &mut [u8], at: usize, number: u32) -> usize
     requires { ⌜ at + 64 ≤ length (now out) ⌝ }
     ensures { λ r. ⌜ Puts (malformedText number) at (now (out .entry)) r (now (out .exit)) ⌝ }
 {
-    let next = text::put(out, at, b"answer=malformed\nline=");
-    let end = text::decimal(out, next, number);
-    text::put(out, end, b"\n")
+    text::decimal_line(out, at, b"answer=malformed\nline=", number)
 }
 
 // A run that ends with a malformed line.
@@ -84,9 +80,7 @@ fn bytes(out: &mut [u8], at: usize, answer: &[u8]) -> usize
     if answer.len() == 0 {
         return at;
     }
-    let next = text::put(out, at, b"bytes=");
-    let end = text::hex(out, next, answer);
-    text::put(out, end, b"\n")
+    text::hex_line(out, at, b"bytes=", answer)
 }
 
 // A success: its title, and the answer bytes that were written.
@@ -144,10 +138,8 @@ fn notes(out: &mut [u8], at: usize, tenth: u32, answer: &[u8]) -> usize
     if answer.len() == 0 {
         return text::put(out, at, b"notes=0\n");
     }
-    let next = text::put(out, at, b"notes=1\nat=");
-    let end = text::decimal(out, next, tenth);
-    let behind = text::put(out, end, b"\n");
-    bytes(out, behind, answer)
+    let next = text::decimal_line(out, at, b"notes=1\nat=", tenth);
+    bytes(out, next, answer)
 }
 
 // The end of time that passed: the notes and the clock's seconds.
@@ -164,9 +156,7 @@ fn elapsed(
 {
     let next = text::put(out, at, b"answer=elapsed\n");
     let noted = notes(out, next, tenth, &answer[..count]);
-    let clock = text::put(out, noted, b"clock=");
-    let end = text::decimal(out, clock, seconds);
-    text::put(out, end, b"\n")
+    text::decimal_line(out, noted, b"clock=", seconds)
 }
 
 // The end of time.

@@ -28,13 +28,21 @@ pub fn close(run: Run, line: &[u8], out: &mut [u8], at: usize) -> Progress
     let next = run.next;
     let told = lines::read(next, line, &mut bytes);
     let what = told.line;
-    act(run, what, bytes, told.count, out, at)
+    act(run, what, told.number, bytes, told.count, out, at)
 }
 
 // What a line that was read does.
-fn act(run: Run, what: Line, bytes: [u8; 128], count: usize, out: &mut [u8], at: usize) -> Progress
+fn act(
+    run: Run,
+    what: Line,
+    number: u32,
+    bytes: [u8; 128],
+    count: usize,
+    out: &mut [u8],
+    at: usize,
+) -> Progress
     requires { ⌜ (Ready run at (now out)) × (count ≤ 128) ⌝ }
-    ensures { λ r. ⌜ ClosesLine (lineOf what (run .power) (run .components) (take (run .filled) (run .r)) (take count bytes)) run at (now (out .entry)) (r .run) (r .written) (now (out .exit)) ⌝ }
+    ensures { λ r. ⌜ ClosesLine (lineOf what (run .power) (run .components) (take (run .filled) (run .r)) number (take count bytes)) run at (now (out .entry)) (r .run) (r .written) (now (out .exit)) ⌝ }
 {
     match what {
         Line::Power(p) => {
@@ -42,12 +50,12 @@ fn act(run: Run, what: Line, bytes: [u8; 128], count: usize, out: &mut [u8], at:
             read.power = p;
             follow(read, Next::Components, at)
         }
-        Line::Components(n) => {
+        Line::Components => {
             let mut read = run;
-            read.components = n;
+            read.components = number;
             follow(read, Next::Volume, at)
         }
-        Line::Volume(selectable) => settle(run, selectable, out, at),
+        Line::Volume => settle(run, number, out, at),
         Line::Follows(next) => follow(run, next, at),
         Line::R => {
             let mut read = run;
@@ -55,7 +63,7 @@ fn act(run: Run, what: Line, bytes: [u8; 128], count: usize, out: &mut [u8], at:
             read.filled = count;
             follow(read, Next::Id, at)
         }
-        Line::Brings(event) => bring(run, event, &bytes[..count], out, at),
+        Line::Brings(event) => bring(run, event, number, &bytes[..count], out, at),
         Line::Breaks => answers::breaks(run, out, at),
     }
 }
@@ -118,14 +126,14 @@ fn settle(run: Run, selectable: u32, out: &mut [u8], at: usize) -> Progress
 }
 
 // A whole event.
-fn bring(run: Run, event: Event, bytes: &[u8], out: &mut [u8], at: usize) -> Progress
+fn bring(run: Run, event: Event, number: u32, bytes: &[u8], out: &mut [u8], at: usize) -> Progress
     requires { ⌜ Ready run at (now out) ⌝ }
-    ensures { λ r. ⌜ ClosesLine (replay.brings (eventOf event (take (run .filled) (run .r)) (now (bytes .entry)))) run at (now (out .entry)) (r .run) (r .written) (now (out .exit)) ⌝ }
+    ensures { λ r. ⌜ ClosesLine (replay.brings (eventOf event number (take (run .filled) (run .r)) (now (bytes .entry)))) run at (now (out .entry)) (r .run) (r .written) (now (out .exit)) ⌝ }
 {
     let u = run.unit;
     let r = run.r;
     let filled = run.filled;
-    let done = events::perform(u, event, &r[..filled], bytes, out, at);
+    let done = events::perform(u, event, number, &r[..filled], bytes, out, at);
     let unit = done.unit;
     Progress {
         run: advance(run, Next::Event, unit),

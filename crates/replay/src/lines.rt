@@ -2,11 +2,14 @@
 ghost use mathlib.Core.Path.{_≡_};
 ghost use Prim.Native.Nat.{_≤_};
 ghost use lib.ListN.{length};
-ghost use Rattle.replay.specs.Reading.{bytes as bytesOf};
+ghost use mathlib.Core.List.{[]};
+ghost use Rattle.replay.specs.Reading.{unsigned as unsignedOf, bytes as bytesOf};
 ghost use Rattle.replay.specs.Replay as replay;
-ghost use Rattle.replay.specs.Session.{expecting, Means, Says, lineOf, valueLine};
+ghost use Rattle.replay.specs.Session.{expecting, Means, Says, SaysNumber, lineOf, valueLine};
 use crate::Next;
+use crate::events::Ask;
 use crate::events::Event;
+use crate::events::Setting;
 use crate::keyed;
 use crate::reading;
 use crate::reading::Numeral;
@@ -14,20 +17,21 @@ use crate::reading::Octets;
 use crate::reading::SignedNumeral;
 use crate::reading::Switch;
 
-// What a line means. Bytes behind its key stand beside it.
+// What a line means. Its number or its bytes stand beside it.
 pub enum Line {
     Power(i32),
-    Components(u32),
-    Volume(u32),
+    Components,
+    Volume,
     Follows(Next),
     R,
     Brings(Event),
     Breaks,
 }
 
-// A line that was read, and how many bytes of it stand at the front of those lent.
+// A line that was read, its number, and how many bytes of it stand at the front of those lent.
 pub struct Told {
     pub line: Line,
+    pub number: u32,
     pub count: usize,
 }
 
@@ -37,54 +41,83 @@ pub fn read(next: Next, line: &[u8], into: &mut [u8]) -> Told
     ensures { λ r. ⌜ Says (λ p c b. replay.taken (expecting next p c b) (now (line .entry))) r (now (into .exit)) ⌝ }
 {
     match next {
-        Next::Power => match keyed::signed(line, b"power=") {
-            SignedNumeral::Value(p) => plain(Line::Power(p)),
-            SignedNumeral::Wrong => plain(Line::Breaks),
-        },
-        Next::Components => match keyed::unsigned(line, b"components=") {
-            Numeral::Value(n) => plain(Line::Components(n)),
-            Numeral::Wrong => plain(Line::Breaks),
-        },
-        Next::Volume => match keyed::unsigned(line, b"volume=") {
-            Numeral::Value(n) => plain(Line::Volume(n)),
-            Numeral::Wrong => plain(Line::Breaks),
-        },
+        Next::Power => plain(power(line)),
+        Next::Components => number(line, b"components=", Line::Components),
+        Next::Volume => number(line, b"volume=", Line::Volume),
         Next::Event => plain(event(line)),
-        Next::Nonce => octets(line, b"nonce=", Line::Brings(Event::Read), into),
-        Next::Data => octets(line, b"data=", Line::Brings(Event::Write), into),
-        Next::Tenths => match keyed::unsigned(line, b"tenths=") {
-            Numeral::Value(n) => plain(Line::Brings(Event::Elapsed(n))),
-            Numeral::Wrong => plain(Line::Breaks),
-        },
-        Next::On => match keyed::flag(line, b"on=") {
-            Switch::Value(b) => plain(Line::Brings(Event::Pairing(b))),
-            Switch::Wrong => plain(Line::Breaks),
-        },
-        Next::Level => match keyed::unsigned(line, b"level=") {
-            Numeral::Value(n) => plain(Line::Brings(Event::Battery(n))),
-            Numeral::Wrong => plain(Line::Breaks),
-        },
-        Next::KeyBytes => octets(line, b"bytes=", Line::Brings(Event::Key), into),
+        Next::Nonce => octets(line, b"nonce=", Line::Brings(Event::Asks(Ask::Read)), into),
+        Next::Data => octets(line, b"data=", Line::Brings(Event::Asks(Ask::Write)), into),
+        Next::Tenths => number(line, b"tenths=", Line::Brings(Event::Elapsed)),
+        Next::On => plain(on(line)),
+        Next::Level => number(line, b"level=", Line::Brings(Event::Sets(Setting::Battery))),
+        Next::KeyBytes => octets(
+            line,
+            b"bytes=",
+            Line::Brings(Event::Sets(Setting::Key)),
+            into,
+        ),
         Next::R => octets(line, b"r=", Line::R, into),
-        Next::Id => octets(line, b"id=", Line::Brings(Event::Identifier), into),
+        Next::Id => octets(
+            line,
+            b"id=",
+            Line::Brings(Event::Sets(Setting::Identifier)),
+            into,
+        ),
     }
 }
 
-// A line without bytes.
+// A line that is whole by itself.
 fn plain(line: Line) -> Told
-    ensures { λ r. ⌜ (r .line ≡ line) × (r .count ≡ 0) ⌝ }
+    ensures { λ r. ⌜ r ≡ record { line = line; number = 0; count = 0 } ⌝ }
 {
-    Told { line, count: 0 }
+    Told {
+        line,
+        number: 0,
+        count: 0,
+    }
+}
+
+fn power(line: &[u8]) -> Line
+    ensures { λ r. ⌜ Means (replay.taken replay.power (now (line .entry))) r ⌝ }
+{
+    match keyed::signed(line, b"power=") {
+        SignedNumeral::Value(p) => Line::Power(p),
+        SignedNumeral::Wrong => Line::Breaks,
+    }
+}
+
+fn on(line: &[u8]) -> Line
+    ensures { λ r. ⌜ Means (replay.taken replay.on (now (line .entry))) r ⌝ }
+{
+    match keyed::flag(line, b"on=") {
+        Switch::Value(on) => Line::Brings(Event::Sets(Setting::Pairing(on))),
+        Switch::Wrong => Line::Breaks,
+    }
+}
+
+// The number behind a key, and what it is for.
+fn number(line: &[u8], key: &[u8], means: Line) -> Told
+    ensures { λ r. ⌜ SaysNumber (λ p c b. valueLine (now (key .entry)) unsignedOf (λ n. lineOf means p c b n []) (now (line .entry))) r ⌝ }
+{
+    match keyed::unsigned(line, key) {
+        Numeral::Value(n) => Told {
+            line: means,
+            number: n,
+            count: 0,
+        },
+        Numeral::Wrong => plain(Line::Breaks),
+    }
 }
 
 // The bytes behind a key, and what they are for.
 fn octets(line: &[u8], key: &[u8], means: Line, into: &mut [u8]) -> Told
     requires { ⌜ (length (now line) ≤ 256) × (length (now into) ≡ 128) ⌝ }
-    ensures { λ r. ⌜ Says (λ p c b. valueLine (now (key .entry)) bytesOf (lineOf means p c b) (now (line .entry))) r (now (into .exit)) ⌝ }
+    ensures { λ r. ⌜ Says (λ p c b. valueLine (now (key .entry)) bytesOf (lineOf means p c b 0) (now (line .entry))) r (now (into .exit)) ⌝ }
 {
     match keyed::unhex(line, key, into) {
         Octets::Count(n) => Told {
             line: means,
+            number: 0,
             count: n,
         },
         Octets::Wrong => plain(Line::Breaks),
@@ -115,7 +148,7 @@ fn named(name: &[u8]) -> Line
         return Line::Follows(Next::Tenths);
     }
     if reading::is(name, b"button") {
-        return Line::Brings(Event::Button);
+        return Line::Brings(Event::Asks(Ask::Button));
     }
     if reading::is(name, b"pairing") {
         return Line::Follows(Next::On);
@@ -130,7 +163,7 @@ fn named(name: &[u8]) -> Line
         return Line::Follows(Next::R);
     }
     if reading::is(name, b"frame") {
-        return Line::Brings(Event::Frame);
+        return Line::Brings(Event::Asks(Ask::Frame));
     }
     Line::Breaks
 }

@@ -1,12 +1,10 @@
 // Writing text into lent bytes, from a place on. Each function gives the next place.
 ghost use mathlib.Core.Path.{_≡_};
-ghost use mathlib.Core.List.{List, [], _∷_};
+ghost use mathlib.Core.List.{[], _∷_, _++_};
 ghost use Prim.Native.Nat.{_+_, _*_, _≤_, _<_};
 ghost use lib.ListN.{length};
-ghost use Rattle.replay.specs.Text.{decimal as decimalOf, hex as hexOf, hexDigit};
+ghost use Rattle.replay.specs.Text.{decimal as decimalOf, hex as hexOf, hexDigit, newline};
 ghost use Rattle.replay.specs.Written.{Puts};
-
-pub const MOST_DIGITS: usize = 10;
 
 // Bytes as they are.
 pub fn put(out: &mut [u8], at: usize, bytes: &[u8]) -> usize
@@ -30,7 +28,7 @@ fn digit(d: u8) -> u8
 }
 
 // Bytes in hexadecimal, two digits each.
-pub fn hex(out: &mut [u8], at: usize, bytes: &[u8]) -> usize
+fn hex(out: &mut [u8], at: usize, bytes: &[u8]) -> usize
     requires { ⌜ at + 2 * length (now bytes) ≤ length (now out) ⌝ }
     ensures { λ r. ⌜ Puts (hexOf (now (bytes .entry))) at (now (out .entry)) r (now (out .exit)) ⌝ }
 {
@@ -46,8 +44,28 @@ pub fn hex(out: &mut [u8], at: usize, bytes: &[u8]) -> usize
     next
 }
 
+// A key, bytes in hexadecimal and a newline.
+pub fn hex_line(out: &mut [u8], at: usize, key: &[u8], bytes: &[u8]) -> usize
+    requires { ⌜ at + (length (now key) + (2 * length (now bytes) + 1)) ≤ length (now out) ⌝ }
+    ensures { λ r. ⌜ Puts (now (key .entry) ++ (hexOf (now (bytes .entry)) ++ (newline ∷ []))) at (now (out .entry)) r (now (out .exit)) ⌝ }
+{
+    let next = put(out, at, key);
+    let end = hex(out, next, bytes);
+    put(out, end, b"\n")
+}
+
+// A key, a number in decimal and a newline.
+pub fn decimal_line(out: &mut [u8], at: usize, key: &[u8], n: u32) -> usize
+    requires { ⌜ at + (length (now key) + 11) ≤ length (now out) ⌝ }
+    ensures { λ r. ⌜ Puts (now (key .entry) ++ (decimalOf n ++ (newline ∷ []))) at (now (out .entry)) r (now (out .exit)) ⌝ }
+{
+    let next = put(out, at, key);
+    let end = decimal(out, next, n);
+    put(out, end, b"\n")
+}
+
 // A number in decimal: its digits from the last to the first, and then as text.
-pub fn decimal(out: &mut [u8], at: usize, n: u32) -> usize
+fn decimal(out: &mut [u8], at: usize, n: u32) -> usize
     requires { ⌜ at + 10 ≤ length (now out) ⌝ }
     ensures { λ r. ⌜ Puts (decimalOf n) at (now (out .entry)) r (now (out .exit)) ⌝ }
 {

@@ -2,7 +2,7 @@
 use Rattle.replay.proofs.ClosedLines.{closes-told, closes-moved}
 use Rattle.replay.specs.Feeding.{closed}
 use Rattle.replay.specs.Replay as replay
-use Rattle.replay.specs.Session.{expectedOf, expecting}
+use Rattle.replay.specs.Session.{expecting}
 use Rattle.replay.specs.declared.Next.the-variants as next
 use Rattle.replay.specs.declared.Run.{Run}
 use borrow.Author.Needs.{needs}
@@ -27,44 +27,44 @@ enum-known-what c = search needs
 follow-requires : tie.Need-follow-requires
 follow-requires c κs = search needs
 
-enum-known-what-2 : tie.Need-enum-known-what-2
-enum-known-what-2 c = search needs
+enum-told : tie.Need-enum-told
+enum-told c = search needs
 
 follow-requires-2 : tie.Need-follow-requires-2
 follow-requires-2 c κs = search needs
 
-enum-known-what-3 : tie.Need-enum-known-what-3
-enum-known-what-3 c = search needs
+enum-told-2 : tie.Need-enum-told-2
+enum-told-2 c = search needs
 
 settle-requires : tie.Need-settle-requires
 settle-requires c κs = search needs
 
-enum-known-what-4 : tie.Need-enum-known-what-4
-enum-known-what-4 c = search needs
+enum-known-what-2 : tie.Need-enum-known-what-2
+enum-known-what-2 c = search needs
 
 follow-requires-3 : tie.Need-follow-requires-3
 follow-requires-3 c κs = search needs
 
-enum-told : tie.Need-enum-told
-enum-told c = search needs
+enum-told-3 : tie.Need-enum-told-3
+enum-told-3 c = search needs
 
 follow-requires-4 : tie.Need-follow-requires-4
 follow-requires-4 c κs = search needs
 
-enum-known-what-5 : tie.Need-enum-known-what-5
-enum-known-what-5 c = search needs
+enum-known-what-3 : tie.Need-enum-known-what-3
+enum-known-what-3 c = search needs
 
 array-share-prefix-bytes : tie.Need-array-share-prefix-bytes
 array-share-prefix-bytes c = search needs
 
 slice-aggregate-bring : tie.Need-slice-aggregate-bring
-slice-aggregate-bring c = sym (length-take-le (c .before .before .before .before .before .args .count) (c .before .before .before .before .before .args .t3) (omega arith))
+slice-aggregate-bring c = sym (length-take-le (c .before .before .before .before .before .args .count) (c .before .before .before .before .before .args .t4) (omega arith))
 
 bring-requires : tie.Need-bring-requires
 bring-requires c κs = search needs
 
-enum-told-2 : tie.Need-enum-told-2
-enum-told-2 c = search needs
+enum-told-4 : tie.Need-enum-told-4
+enum-told-4 c = search needs
 
 breaks-requires : tie.Need-breaks-requires
 breaks-requires c κs = search needs
@@ -84,39 +84,39 @@ returns c =
       filled = run .filled;
       unit = run .unit;
     } in
-    closes-told run (take (c .before .before .before .before .before .args .count) (c .before .before .before .before .before .args .t3)) (c .before .before .what .given .1)
+    closes-told run (c .before .before .before .before .before .args .number) (take (c .before .before .before .before .before .args .count) (c .before .before .before .before .before .args .t4)) (c .before .before .what .given .1)
     (closes-moved (replay.components (c .before .before .what .given .0 .0)) next.Components base (c .follow .ensures .0) (ready .going) (ready .counted) (ready .sound .withinR) (ap replay.components (search needs)) (c .follow .ensures .1))
 
 returns-2 : tie.Need-returns-2
 returns-2 c =
-    let run = c .before .before .before .before .before .args .run in
-    let ready = c .before .before .before .before .before .pre .0 in
+    let run = c .before .before .before .before .args .run in
+    let ready = c .before .before .before .before .pre .0 in
     let base : Run =
     record {
       ended = run .ended;
       next = run .next;
       number = run .number;
       power = run .power;
-      components = c .before .before .what2 .given .0 .0;
+      components = c .before .before .before .before .args .number;
       r = run .r;
       filled = run .filled;
       unit = run .unit;
     } in
-    closes-told run (take (c .before .before .before .before .before .args .count) (c .before .before .before .before .before .args .t3)) (c .before .before .what2 .given .1)
-    (closes-moved (replay.volume (run .power) (c .before .before .what2 .given .0 .0)) next.Volume base (c .follow2 .ensures .0) (ready .going) (ready .counted) (ready .sound .withinR) refl (c .follow2 .ensures .1))
+    closes-told run (c .before .before .before .before .args .number) (take (c .before .before .before .before .args .count) (c .before .before .before .before .args .t4)) (c .before .enum-told .given .1)
+    (closes-moved (replay.volume (run .power) (c .before .before .before .before .args .number)) next.Volume base (c .follow2 .ensures .0) (ready .going) (ready .counted) (ready .sound .withinR) refl (c .follow2 .ensures .1))
 
 same-length : tie.Need-same-length
 same-length c = search needs
 
 returns-3 : tie.Need-returns-3
-returns-3 c = closes-told (c .before .before .before .before .before .before .before .before .args .run) (take (c .before .before .before .before .before .before .before .before .args .count) (c .before .before .before .before .before .before .before .before .args .t3)) (c .before .before .before .before .before .what3 .given .1) (c .before .before .settle .ensures)
+returns-3 c = closes-told (c .before .before .before .before .before .before .before .args .run) (c .before .before .before .before .before .before .before .args .number) (take (c .before .before .before .before .before .before .before .args .count) (c .before .before .before .before .before .before .before .args .t4)) (c .before .before .before .before .enum-told2 .given .1) (c .before .before .settle .ensures)
 
 returns-4 : tie.Need-returns-4
 returns-4 c =
     let run = c .before .before .before .before .before .args .run in
     let ready = c .before .before .before .before .before .pre .0 in
-    let next = c .before .before .what4 .given .0 .0 in
-    closes-told run (take (c .before .before .before .before .before .args .count) (c .before .before .before .before .before .args .t3)) (c .before .before .what4 .given .1)
+    let next = c .before .before .what2 .given .0 .0 in
+    closes-told run (c .before .before .before .before .before .args .number) (take (c .before .before .before .before .before .args .count) (c .before .before .before .before .before .args .t4)) (c .before .before .what2 .given .1)
     (closes-moved (expecting next (run .power) (run .components) (take (run .filled) (run .r))) next run (c .follow3 .ensures .0) (ready .going) (ready .counted) (ready .sound .withinR) refl (c .follow3 .ensures .1))
 
 returns-5 : tie.Need-returns-5
@@ -130,25 +130,25 @@ returns-5 c =
       number = run .number;
       power = run .power;
       components = run .components;
-      r = c .before .before .before .before .args .t3;
+      r = c .before .before .before .before .args .t4;
       filled = c .before .before .before .before .args .count;
       unit = run .unit;
     } in
-    closes-told run (take (c .before .before .before .before .args .count) (c .before .before .before .before .args .t3)) (c .before .enum-told .given .1)
-    (closes-moved (replay.id (take (c .before .before .before .before .args .count) (c .before .before .before .before .args .t3))) next.Id base (c .follow4 .ensures .0) (ready .going) (ready .counted) (c .before .before .before .before .pre .1) refl (c .follow4 .ensures .1))
+    closes-told run (c .before .before .before .before .args .number) (take (c .before .before .before .before .args .count) (c .before .before .before .before .args .t4)) (c .before .enum-told3 .given .1)
+    (closes-moved (replay.id (take (c .before .before .before .before .args .count) (c .before .before .before .before .args .t4))) next.Id base (c .follow4 .ensures .0) (ready .going) (ready .counted) (c .before .before .before .before .pre .1) refl (c .follow4 .ensures .1))
 
 same-length-2 : tie.Need-same-length-2
 same-length-2 c = search needs
 
 returns-6 : tie.Need-returns-6
-returns-6 c = closes-told (c .before .before .before .before .before .before .before .before .before .args .run) (take (c .before .before .before .before .before .before .before .before .before .args .count) (c .before .before .before .before .before .before .before .before .before .args .t3)) (c .before .before .before .before .before .before .what5 .given .1) (c .before .before .bring .ensures)
+returns-6 c = closes-told (c .before .before .before .before .before .before .before .before .before .args .run) (c .before .before .before .before .before .before .before .before .before .args .number) (take (c .before .before .before .before .before .before .before .before .before .args .count) (c .before .before .before .before .before .before .before .before .before .args .t4)) (c .before .before .before .before .before .before .what3 .given .1) (c .before .before .bring .ensures)
 
 same-length-3 : tie.Need-same-length-3
 same-length-3 c = search needs
 
 returns-7 : tie.Need-returns-7
 unfolding closed
-returns-7 c = closes-told (c .before .before .before .before .before .before .before .args .run) (take (c .before .before .before .before .before .before .before .args .count) (c .before .before .before .before .before .before .before .args .t3)) (c .before .before .before .before .enum-told2 .given .1) (c .before .before .breaks .ensures)
+returns-7 c = closes-told (c .before .before .before .before .before .before .before .args .run) (c .before .before .before .before .before .before .before .args .number) (take (c .before .before .before .before .before .before .before .args .count) (c .before .before .before .before .before .before .before .args .t4)) (c .before .before .before .before .enum-told4 .given .1) (c .before .before .breaks .ensures)
 
 pub act-spec : {M : Type 1} → statement M
 act-spec =
@@ -156,19 +156,19 @@ act-spec =
     (tie.spec
     enum-known-what
     follow-requires
-    enum-known-what-2
-    follow-requires-2
-    enum-known-what-3
-    settle-requires
-    enum-known-what-4
-    follow-requires-3
     enum-told
+    follow-requires-2
+    enum-told-2
+    settle-requires
+    enum-known-what-2
+    follow-requires-3
+    enum-told-3
     follow-requires-4
-    enum-known-what-5
+    enum-known-what-3
     array-share-prefix-bytes
     slice-aggregate-bring
     bring-requires
-    enum-told-2
+    enum-told-4
     breaks-requires
     returns
     returns-2

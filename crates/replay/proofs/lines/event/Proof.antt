@@ -39,14 +39,14 @@ unfolding taken
 returns c =
     record {
       lineIs =
-          λ p n kept b.
-          c .named .ensures .lineIs p n kept b
+          λ p n kept m b.
+          c .named .ensures .lineIs p n kept m b
           ∙ keyed-line (ascii "event=") (c .before .before .before .before .before .before .args .line .now) (c .before .before .before .begins .ensures) named (c .before .before .if1 .taken);
     }
 
 returns-2 : tie.Need-returns-2
 unfolding taken
-returns-2 c = record { lineIs = λ p n kept b. unkeyed-line (ascii "event=") (c .before .before .before .before .args .line .now) (c .before .begins .ensures) named (c .if1 .left) }
+returns-2 c = record { lineIs = λ p n kept m b. unkeyed-line (ascii "event=") (c .before .before .before .before .args .line .now) (c .before .begins .ensures) named (c .if1 .left) }
 
 pub event-spec : {M : Type 1} → statement M
 event-spec =

@@ -32,7 +32,7 @@ returns c =
     let known = c .before .before .before .before .before .before .before .before .before .before .args in
     let into = c .before .before .before .before .before .unhex .last .1 .1 .0 in
     record {
-      lineIs = λ p n kept. value-line (λ x. octetsOf x into) (known .key .now) bytes (lineOf (known .means) p n kept) (known .line .now) (c .before .before .before .before .before .unhex .ensures .bytesAre) (c .before .n .given .1);
+      lineIs = λ p c′ k. value-line (λ x. octetsOf x into) (known .key .now) bytes (lineOf (known .means) p c′ k 0) (known .line .now) (c .before .before .before .before .before .unhex .ensures .bytesAre) (c .before .n .given .1);
       withinRoom = rw (c .before .n .given .1) at (c .before .before .before .before .before .unhex .ensures .withinRoom);
     }
 
@@ -43,10 +43,11 @@ returns-2 : tie.Need-returns-2
 returns-2 c =
     let known = c .before .before .before .before .before .before .before .before .before .before .args in
     let into = c .before .before .before .before .before .unhex .last .1 .1 .0 in
-    record {
-      lineIs = λ p n kept. rw (c .plain .ensures .0) (value-line (λ x. octetsOf x into) (known .key .now) bytes (lineOf (known .means) p n kept) (known .line .now) (c .before .before .before .before .before .unhex .ensures .bytesAre) (c .before .enum-told .given .1));
-      withinRoom = omega (arith, c .plain .ensures .1);
-    }
+    rw (c .plain .ensures)
+    (record {
+      lineIs = λ p c′ k. value-line (λ x. octetsOf x into) (known .key .now) bytes (lineOf (known .means) p c′ k 0) (known .line .now) (c .before .before .before .before .before .unhex .ensures .bytesAre) (c .before .enum-told .given .1);
+      withinRoom = omega arith;
+    })
 
 pub octets-spec : {M : Type 1} → statement M
 octets-spec =

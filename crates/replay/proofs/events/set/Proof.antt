@@ -1,0 +1,134 @@
+-- `replay::events::set` meets its contract: the end of the call is what its event prints. Assumes nothing.
+use Rattle.replay.proofs.Performed.{performs-settled}
+use Rattle.replay.specs.Event as event
+use Rattle.replay.specs.Event.{performed, successText}
+use Rattle.replay.specs.Text.{ascii}
+use borrow.Author.Needs.{needs}
+use mathlib.Core.Path.{refl}
+use native.Mathlib.Omega.{arith}
+use Rattle.replay.proofs.events.set.Statement.{statement}
+use Rattle.replay.proofs.events.set.Tie as tie
+use Rattle.replay.proofs.events.set.Reads as reads
+use Rattle.replay.proofs.events.set.Lts as lts
+use Rattle.replay.proofs.answers.settled.Reads as settled-reads
+use Rattle.tag.proofs.account_key.Reads as account-key-reads
+use Rattle.tag.proofs.battery.Reads as battery-reads
+use Rattle.tag.proofs.lend_identifier.Reads as lend-identifier-reads
+use Rattle.tag.proofs.pairing.Reads as pairing-reads
+
+enum-known-what : tie.Need-enum-known-what
+enum-known-what c = search needs
+
+pairing-requires : tie.Need-pairing-requires
+pairing-requires c κs = search needs
+
+slice-aggregate-settled : tie.Need-slice-aggregate-settled
+slice-aggregate-settled c = search needs
+
+settled-requires : tie.Need-settled-requires
+settled-requires c κs = search needs
+
+enum-told : tie.Need-enum-told
+enum-told c = search needs
+
+battery-requires : tie.Need-battery-requires
+battery-requires c κs = search needs
+
+slice-aggregate-settled-2 : tie.Need-slice-aggregate-settled-2
+slice-aggregate-settled-2 c = search needs
+
+settled-requires-2 : tie.Need-settled-requires-2
+settled-requires-2 c κs = search needs
+
+enum-told-2 : tie.Need-enum-told-2
+enum-told-2 c = search needs
+
+account-key-requires : tie.Need-account-key-requires
+account-key-requires c κs = search needs
+
+slice-aggregate-settled-3 : tie.Need-slice-aggregate-settled-3
+slice-aggregate-settled-3 c = search needs
+
+settled-requires-3 : tie.Need-settled-requires-3
+settled-requires-3 c κs = search needs
+
+enum-told-3 : tie.Need-enum-told-3
+enum-told-3 c = search needs
+
+lend-identifier-requires : tie.Need-lend-identifier-requires
+lend-identifier-requires c κs = search needs
+
+slice-aggregate-settled-4 : tie.Need-slice-aggregate-settled-4
+slice-aggregate-settled-4 c = search needs
+
+settled-requires-4 : tie.Need-settled-requires-4
+settled-requires-4 c κs = search needs
+
+same-length : tie.Need-same-length
+same-length c = search needs
+
+returns : tie.Need-returns
+unfolding performed successText
+returns c =
+    let known = c .before .before .before .before .before .before .before .before .before .before .before .before .args in
+    rw (c .before .before .before .before .before .before .before .what .given .1)
+    (performs-settled (event.pairing (c .before .before .before .before .before .before .before .what .given .0 .0)) (known .u) (ascii "answer=pairing\n") (omega arith) (λ o a. refl) (c .before .before .before .before .before .pairing .ensures) (c .before .before .settled .ensures))
+
+same-length-2 : tie.Need-same-length-2
+same-length-2 c = search needs
+
+returns-2 : tie.Need-returns-2
+unfolding performed successText
+returns-2 c =
+    let known = c .before .before .before .before .before .before .before .before .before .before .before .args in
+    rw (c .before .before .before .before .before .before .enum-told .given .1)
+    (performs-settled (event.battery (known .level)) (known .u) (ascii "answer=battery\n") (omega arith) (λ o a. refl) (c .before .before .before .before .before .battery .ensures) (c .before .before .settled2 .ensures))
+
+same-length-3 : tie.Need-same-length-3
+same-length-3 c = search needs
+
+returns-3 : tie.Need-returns-3
+unfolding performed successText
+returns-3 c =
+    let known = c .before .before .before .before .before .before .before .before .before .before .before .args in
+    rw (c .before .before .before .before .before .before .enum-told2 .given .1)
+    (performs-settled (event.key (known .bytes .now)) (known .u) (ascii "answer=key\n") (omega arith) (λ o a. refl) (c .before .before .before .before .before .account-key .ensures) (c .before .before .settled3 .ensures))
+
+same-length-4 : tie.Need-same-length-4
+same-length-4 c = search needs
+
+returns-4 : tie.Need-returns-4
+unfolding performed successText
+returns-4 c =
+    let known = c .before .before .before .before .before .before .before .before .before .before .before .args in
+    rw (c .before .before .before .before .before .before .enum-told3 .given .1)
+    (performs-settled (event.identifier (known .r .now) (known .bytes .now)) (known .u) (ascii "answer=identifier\n") (omega arith) (λ o a. refl) (c .before .before .before .before .before .lend-identifier .ensures) (c .before .before .settled4 .ensures))
+
+pub set-spec : {M : Type 1} → statement M
+set-spec =
+    tie.close
+    (tie.spec
+    enum-known-what
+    pairing-requires
+    slice-aggregate-settled
+    settled-requires
+    enum-told
+    battery-requires
+    slice-aggregate-settled-2
+    settled-requires-2
+    enum-told-2
+    account-key-requires
+    slice-aggregate-settled-3
+    settled-requires-3
+    enum-told-3
+    lend-identifier-requires
+    slice-aggregate-settled-4
+    settled-requires-4
+    same-length
+    returns
+    same-length-2
+    returns-2
+    same-length-3
+    returns-3
+    same-length-4
+    returns-4)
