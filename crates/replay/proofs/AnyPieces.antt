@@ -1,20 +1,18 @@
 -- Feeding the input in any pieces prints what `replay` gives for the whole. The idea: a state that reads a part of a line and then gets
 -- more bytes prints what the run over the lines of the part and those bytes gives; the part has no newline and is not too long.
 -- Assumes nothing.
-use Prim.Native.Nat.{ℕ, zero, suc, _+_, _≤_, _<_, zero-le}
-use mathlib.Core.Path.{_≡_, refl, sym, ap, _∙_}
-use mathlib.Core.Bool.{Bool, true, false, cond, _&&_}
+use Prim.Native.Nat.{ℕ, suc, _+_, _≤_, _<_, zero-le}
+use mathlib.Core.Path.{_≡_, refl, sym, _∙_}
+use mathlib.Core.Bool.{Bool, true, false, cond}
 use mathlib.Core.List.{List, [], _∷_, _++_, append-assoc, append-nil}
-use mathlib.Core.Logic.{_⊎_, inl, inr}
 use native.Mathlib.Omega.{arith}
-use lib.Dec.{eqb, leb, ltb}
+use lib.Dec.{eqb, ltb}
 use lib.ListN.{length, length-append}
-use borrow.Author.Tests.{eqb-true, ltb-true, ltb-false, lt-leb}
+use borrow.Author.Tests.{ltb-true, ltb-false, lt-leb}
 use Rattle.laws.specs.Answer.{Result, gives, refuses}
-use Rattle.laws.proofs.Flags.{true-or-false, and-fails-left}
 use Rattle.unit.specs.declared.TagUnit.{TagUnit}
 use Rattle.unit.specs.Outcome.{Outcome}
-use Rattle.tag.specs.Calls.{newUnit, noUnit}
+use Rattle.tag.specs.Calls.{newUnit}
 use Rattle.replay.specs.Text.{newline}
 use Rattle.replay.specs.Event.{performed, printed, refusedText, malformedText}
 use Rattle.replay.specs.Replay.{Expected, Line, follows, brings, settles, breaks, judged, done, run, lines, File, mayEnd, longestLine, replay, begun, onto, event, power, components, volume, nonce, «data», tenths, on, level, keyBytes, id}

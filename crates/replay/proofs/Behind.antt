@@ -1,17 +1,17 @@
--- What stands behind a key: found where the line begins with the key, and no value where it does not. Assumes nothing.
+-- What stands behind a key: read where the line begins with the key, and a line that breaks the order where it does not. Assumes nothing.
 use Prim.Native.Nat.{ℕ, _-_, _≤_}
-use mathlib.Core.Path.{_≡_, refl, sym, ap, _∙_}
+use mathlib.Core.Path.{_≡_, sym, ap, _∙_}
 use mathlib.Core.Bool.{Bool, true, false, cond}
 use mathlib.Core.List.{List}
-use mathlib.Core.Option.{Option, none, some}
+use mathlib.Core.Option.{Option}
 use native.Mathlib.Omega.{arith}
 use lib.ListN.{length, take, drop, length-take, length-drop}
 use lib.Seq.{take-all}
 use Rattle.laws.specs.Bytes.{sameBytes}
 use Rattle.laws.proofs.Same.{same-equal}
 use Rattle.replay.specs.Reading.{after}
-use Rattle.replay.specs.Values.{behind, readIn}
-use Rattle.replay.specs.Replay.{Line}
+use Rattle.replay.specs.Replay.{Line, breaks, given}
+use Rattle.replay.specs.Session.{valueLine}
 
 module _ (key line : List ℕ) {r : Bool} (found : r ≡ sameBytes (take (length key) line) key) where
   pub key-fits : r ≡ true → length key ≤ length line
@@ -19,16 +19,22 @@ module _ (key line : List ℕ) {r : Bool} (found : r ≡ sameBytes (take (length
       let same : length (take (length key) line) ≡ length key = ap length (same-equal (take (length key) line) key (sym found ∙ h)) in
       omega (arith, length-take (length key) line)
 
-  module _ {A : Type 0} (f : List ℕ → Option A) where
-    pub behind-key : r ≡ true → f (take (length line - length key) (drop (length key) line)) ≡ behind key f line
-    unfolding behind after
-    behind-key h =
+  module _ (g : List ℕ → Line) where
+    pub keyed-line : r ≡ true → g (take (length line - length key) (drop (length key) line)) ≡ given (after key line) g
+    unfolding after
+    keyed-line h =
         rw (sym found ∙ h)
-        (ap f (take-all (length line - length key) (drop (length key) line) (omega (arith, length-drop (length key) line))))
+        (ap g (take-all (length line - length key) (drop (length key) line) (omega (arith, length-drop (length key) line))))
 
-    pub no-key : r ≡ false → none ≡ behind key f line
-    unfolding behind after
-    no-key h = rw (sym found ∙ h)
+    pub unkeyed-line : r ≡ false → breaks ≡ given (after key line) g
+    unfolding after
+    unkeyed-line h = rw (sym found ∙ h)
+
+  -- a value that was read there makes the line that it should
+  pub value-line : {A R : Type 0} (of : R → Option A) (f : List ℕ → Option A) (g : A → Line) → r ≡ true → {read known : R}
+      → of read ≡ f (take (length line - length key) (drop (length key) line)) → read ≡ known → given (of known) g ≡ valueLine key f g line
+  value-line {A} of f g h is e =
+      ap (λ (x : _). given (of x) g) (sym e) ∙ ap (λ (o : Option A). given o g) is ∙ keyed-line (λ v. given (f v) g) h
 
 -- a chain of tests: one that holds is met, one that fails is skipped
 module _ {r test : Bool} (is : r ≡ test) (a b : Line) where

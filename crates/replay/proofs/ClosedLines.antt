@@ -1,17 +1,14 @@
 -- From a value behind its key to the line that it makes, and from there to what closing the line does. Assumes nothing.
-use Prim.Native.Nat.{ℕ, suc, _+_, _-_, _≤_, _<_}
-use mathlib.Core.Path.{_≡_, refl, sym, ap, _∙_}
-use mathlib.Core.Bool.{Bool, true, false, cond}
-use mathlib.Core.List.{List, [], _∷_, _++_}
-use mathlib.Core.Option.{Option, none, some}
+use Prim.Native.Nat.{ℕ, suc, _-_, _≤_, _<_}
+use mathlib.Core.Path.{_≡_, refl, ap}
+use mathlib.Core.Bool.{false}
+use mathlib.Core.List.{List, []}
 use native.Mathlib.Numerals.{add-one}
 use native.Mathlib.Omega.{arith}
 use lib.Dec.{leb}
 use lib.IntN.{ℤ}
-use lib.ListN.{length, take, drop, length-drop}
-use lib.Seq.{take-all}
+use lib.ListN.{length, take}
 use borrow.Author.Tests.{le-leb, lt-leb}
-use Rattle.laws.specs.Bytes.{sameBytes}
 use Rattle.laws.proofs.Flags.{and-fails-right}
 use Rattle.laws.specs.Answer.{Result, gives, refuses}
 use Rattle.unit.specs.Refusals.{number, endOf, ending}
@@ -25,22 +22,10 @@ use Rattle.replay.specs.declared.lines.Line as lines
 use Rattle.replay.specs.declared.lines.Line.the-variants as told
 use Rattle.replay.specs.declared.lines.Told.{Told}
 use Rattle.replay.specs.Event.{refusedText}
-use Rattle.replay.specs.Reading.{after}
-use Rattle.replay.specs.Values.{behind, readIn}
-use Rattle.replay.specs.Replay.{Expected, event, Line, follows, breaks, given, taken, judged, longestLine, mostLines}
-use Rattle.replay.specs.Feeding.{State, reading, ended, Fed, fedTo, closed, beginning}
+use Rattle.replay.specs.Replay.{Expected, event, Line, follows, breaks, taken, judged, longestLine, mostLines}
+use Rattle.replay.specs.Feeding.{reading, ended, Fed, fedTo, closed, beginning}
 use Rattle.replay.specs.Session.{SoundRun, Closes, ClosesLine, stateWith, moved, expecting, expectedOf, lineOf, Means, Says, SaysNumber}
 use Rattle.replay.proofs.Placed.{puts-nothing}
-
--- a value behind its key makes the line that it should
-pub value-line : {A R : Type 0} (of : R → Option A) (key : List ℕ) (f : List ℕ → Option A) (g : A → Line) (l : List ℕ) {r told : R}
-    → of r ≡ behind key f l → r ≡ told → given (of told) g ≡ given (after key l) (λ v. given (f v) g)
-unfolding behind
-value-line {A} of key f g l {r} {told} is e = ap (λ (x : _). given (of x) g) (sym e) ∙ ap (λ (o : Option A). given o g) is ∙ go (after key l)
-  where
-    go : (o : Option (List ℕ)) → given (readIn o f) g ≡ given o (λ v. given (f v) g)
-    go none = refl
-    go (some v) = refl
 
 -- a line that is whole by itself
 pub says-plain : {l : Line} {line : lines.Line} → Means l line → {t : Told} {into : List ℕ} → t ≡ record { line = line; number = 0; count = 0 }
@@ -99,18 +84,6 @@ closes-moved e next base {after} {at} {written} {before} is going few fits means
     (rw (is, going, means, add-one))
     (rw is (record { numbered = omega arith; withinR = fits }))
     w
-
--- what stands behind a key, where the line begins with it
-module _ (key line : List ℕ) {r : Bool} (found : r ≡ sameBytes (take (length key) line) key) (g : List ℕ → Line) where
-  pub keyed-line : r ≡ true → g (take (length line - length key) (drop (length key) line)) ≡ given (after key line) g
-  unfolding after
-  keyed-line h =
-      rw (sym found ∙ h)
-      (ap g (take-all (length line - length key) (drop (length key) line) (omega (arith, length-drop (length key) line))))
-
-  pub unkeyed-line : r ≡ false → breaks ≡ given (after key line) g
-  unfolding after
-  unkeyed-line h = rw (sym found ∙ h)
 
 -- a line within the limits is judged by what is expected
 module _ (run : Run) (line : List ℕ) where

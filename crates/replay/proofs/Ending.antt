@@ -1,27 +1,23 @@
 -- The end of the input: when nothing is missing, and what is promised of the lent bytes. Assumes nothing.
-use Prim.Native.Nat.{ℕ, _+_, _≤_, _<_}
-use mathlib.Core.Path.{_≡_, refl, sym, ap, _∙_}
-use mathlib.Core.Bool.{Bool, true, false, cond}
+use Prim.Native.Nat.{ℕ, _≤_, _<_}
+use mathlib.Core.Path.{_≡_, refl, ap, _∙_}
+use mathlib.Core.Bool.{true, false}
 use mathlib.Core.Logic.{_⊎_, inl, inr}
-use mathlib.Core.List.{List, [], _∷_, _++_}
+use mathlib.Core.List.{List, [], _∷_}
 use native.Mathlib.Nat.{zero-add}
 use native.Mathlib.Omega.{arith}
-use lib.Dec.{leb}
 use lib.IntN.{ℤ}
-use lib.ListN.{length, take, drop, length-take}
-use lib.Seq.{length-take-le}
+use lib.ListN.{length, take, length-take}
 use borrow.Author.Tests.{le-leb, lt-leb}
-use Rattle.laws.proofs.Flags.{clash}
 use Rattle.replay.specs.declared.Next.{Next}
 use Rattle.replay.specs.declared.Next.the-variants as next
 use Rattle.replay.specs.declared.Session.{Session}
-use Rattle.replay.specs.declared.Finished.{Finished}
 use Rattle.replay.specs.declared.Finished.the-variants as finished
 use Rattle.replay.specs.Event.{malformedText}
 use Rattle.replay.specs.Replay.{mayEnd}
 use Rattle.replay.specs.Feeding.{finish}
 use Rattle.replay.specs.Written.{Puts}
-use Rattle.replay.specs.Session.{stateOf, stateWith, expecting, expectedOf, eventNext, finishRoom, Finishes}
+use Rattle.replay.specs.Session.{stateOf, expecting, eventNext, finishRoom, Finishes}
 use Rattle.replay.proofs.Placed.{placed-first, puts-nothing}
 
 module _ (n : Next) (p : ℤ) (c : ℕ) (b : List ℕ) where

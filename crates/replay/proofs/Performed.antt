@@ -1,14 +1,13 @@
 -- From what the tag's calls promise to what an event prints, and from there to a closed line. Assumes nothing.
-use Prim.Native.Nat.{ℕ, suc, _+_, _≤_, _<_}
-use mathlib.Core.Path.{_≡_, refl, sym, ap, _∙_}
-use mathlib.Core.Bool.{false, cond}
+use Prim.Native.Nat.{ℕ, _+_, _≤_}
+use mathlib.Core.Path.{_≡_, sym, ap, _∙_}
 use mathlib.Core.List.{List, [], _∷_, _++_}
 use native.Mathlib.Numerals.{add-one}
 use native.Mathlib.Omega.{arith}
 use lib.ListN.{length, take, drop, length-append}
 use lib.Seq.{take-append-seam, length-take-le}
 use Rattle.laws.specs.Answer.{Result, gives, refuses, lentAfter}
-use Rattle.unit.specs.Refusals.{number, endOf, ending, wrote, refused}
+use Rattle.unit.specs.Refusals.{number, endOf, ending, wrote}
 use Rattle.unit.specs.Outcome.{Outcome, Answers, Settles}
 use Rattle.unit.specs.declared.TagUnit.{TagUnit}
 use Rattle.unit.specs.declared.Reply.{Reply}
@@ -21,7 +20,7 @@ use Rattle.replay.specs.Text.{ascii, decimal, newline}
 use Rattle.replay.specs.Replay.{brings}
 use Rattle.replay.specs.Feeding.{closed}
 use Rattle.replay.specs.Written.{Puts}
-use Rattle.replay.specs.Session.{Ready, ClosesLine, Performs, moved, answeredText, settledText, passedText, elapsedText, repliesWithin, lineRoom}
+use Rattle.replay.specs.Session.{Ready, ClosesLine, Performs, moved, answeredText, settledText, passedText, repliesWithin, lineRoom}
 use Rattle.replay.proofs.Texts.{length-bytes, length-refused, length-notes}
 use Rattle.replay.proofs.Decimal.{length-decimal}
 

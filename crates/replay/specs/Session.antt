@@ -2,7 +2,7 @@
 use Prim.Native.Nat.{ℕ, _+_, _≤_, _<_}
 use mathlib.Core.Path.{_≡_}
 use mathlib.Core.Bool.{Bool, true, false, cond}
-use mathlib.Core.List.{List, [], _∷_, _++_}
+use mathlib.Core.List.{List, [], _++_}
 use mathlib.Core.Logic.{_⊎_}
 use mathlib.Core.Option.{Option}
 use lib.Dec.{leb}
@@ -33,7 +33,7 @@ use Rattle.replay.specs.Event.{Event, read, write, elapsed, button, pair
 use Rattle.replay.specs.Reading.{after}
 use Rattle.replay.specs.Replay as replay
 use Rattle.replay.specs.Replay.{Line, follows, brings, settles, breaks, given, Expected, power, components, volume, nonce, «data», tenths, on, level, keyBytes, r, id, longestLine, mostLines}
-use Rattle.replay.specs.Feeding.{State, reading, ended, Fed, byte, fed, fedTo, finish, closed}
+use Rattle.replay.specs.Feeding.{State, reading, ended, Fed, byte, fed, finish, closed}
 
 -- what is expected, with what was read before it
 abbrev pub expecting : Next → ℤ → ℕ → List ℕ → Expected

@@ -7,7 +7,7 @@ use mathlib.Core.Option.{Option, none, some}
 use lib.Dec.{ltb}
 use lib.ListN.{length, take}
 use lib.IntN.{ℤ}
-use Rattle.replay.specs.Reading.{after, bytes, allDigits, valueFrom}
+use Rattle.replay.specs.Reading.{bytes, allDigits, valueFrom}
 use Rattle.replay.specs.declared.reading.Numeral.{Numeral}
 use Rattle.replay.specs.declared.reading.Numeral.the-variants as numeral
 use Rattle.replay.specs.declared.reading.SignedNumeral.{SignedNumeral}
@@ -49,16 +49,3 @@ pub record Unhexes (text : List ℕ) (r : Octets) (after : List ℕ) : Type 0 wh
 -- the number of a text of digits, leading zeros or not
 unfoldable pub inDigits : List ℕ → Option ℕ
 inDigits cs = cond (allDigits cs && ltb (valueFrom 0 cs) (2 ^ 32)) (some (valueFrom 0 cs)) none
-
--- what stands behind a key, read
-module _ {A : Type 0} where
-  abbrev pub readIn : Option (List ℕ) → (List ℕ → Option A) → Option A
-  readIn none f = none
-  readIn (some v) f = f v
-
-  unfoldable pub behind : List ℕ → (List ℕ → Option A) → List ℕ → Option A
-  behind key f line = readIn (after key line) f
-
-pub record UnhexesBehind (key line : List ℕ) (r : Octets) (into : List ℕ) : Type 0 where
-  pub bytesAre : octetsOf r into ≡ behind key bytes line
-  pub withinRoom : countOf r ≤ 128

@@ -7,7 +7,6 @@ use unit::TagUnit;
 mod answers;
 mod closing;
 mod events;
-mod keyed;
 mod lines;
 mod reading;
 mod text;

@@ -10,7 +10,6 @@ use crate::Next;
 use crate::events::Ask;
 use crate::events::Event;
 use crate::events::Setting;
-use crate::keyed;
 use crate::reading;
 use crate::reading::Numeral;
 use crate::reading::Octets;
@@ -80,7 +79,10 @@ fn plain(line: Line) -> Told
 fn power(line: &[u8]) -> Line
     ensures { λ r. ⌜ Means (replay.taken replay.power (now (line .entry))) r ⌝ }
 {
-    match keyed::signed(line, b"power=") {
+    if !reading::begins(line, b"power=") {
+        return Line::Breaks;
+    }
+    match reading::signed(&line[6..]) {
         SignedNumeral::Value(p) => Line::Power(p),
         SignedNumeral::Wrong => Line::Breaks,
     }
@@ -89,7 +91,10 @@ fn power(line: &[u8]) -> Line
 fn on(line: &[u8]) -> Line
     ensures { λ r. ⌜ Means (replay.taken replay.on (now (line .entry))) r ⌝ }
 {
-    match keyed::flag(line, b"on=") {
+    if !reading::begins(line, b"on=") {
+        return Line::Breaks;
+    }
+    match reading::flag(&line[3..]) {
         Switch::Value(on) => Line::Brings(Event::Sets(Setting::Pairing(on))),
         Switch::Wrong => Line::Breaks,
     }
@@ -99,7 +104,11 @@ fn on(line: &[u8]) -> Line
 fn number(line: &[u8], key: &[u8], means: Line) -> Told
     ensures { λ r. ⌜ SaysNumber (λ p c b. valueLine (now (key .entry)) unsignedOf (λ n. lineOf means p c b n []) (now (line .entry))) r ⌝ }
 {
-    match keyed::unsigned(line, key) {
+    if !reading::begins(line, key) {
+        return plain(Line::Breaks);
+    }
+    let start = key.len();
+    match reading::unsigned(&line[start..]) {
         Numeral::Value(n) => Told {
             line: means,
             number: n,
@@ -109,12 +118,16 @@ fn number(line: &[u8], key: &[u8], means: Line) -> Told
     }
 }
 
-// The bytes behind a key, and what they are for.
+// The bytes behind a key, and what they are for. A line has at most 256 bytes, so that half of them fit.
 fn octets(line: &[u8], key: &[u8], means: Line, into: &mut [u8]) -> Told
     requires { ⌜ (length (now line) ≤ 256) × (length (now into) ≡ 128) ⌝ }
     ensures { λ r. ⌜ Says (λ p c b. valueLine (now (key .entry)) bytesOf (lineOf means p c b 0) (now (line .entry))) r (now (into .exit)) ⌝ }
 {
-    match keyed::unhex(line, key, into) {
+    if !reading::begins(line, key) {
+        return plain(Line::Breaks);
+    }
+    let start = key.len();
+    match reading::unhex(&line[start..], into) {
         Octets::Count(n) => Told {
             line: means,
             number: 0,

@@ -3,7 +3,7 @@ ghost use mathlib.Core.Path.{_≡_};
 ghost use Prim.Native.Nat.{_*_, _≤_};
 ghost use lib.ListN.{length, take};
 ghost use Rattle.laws.specs.Bytes.{sameBytes};
-ghost use Rattle.replay.specs.Reading.{unsigned as unsignedOf, signed as signedOf, flag as flagOf, bytes as bytesOf, hexValue, negative, positive};
+ghost use Rattle.replay.specs.Reading.{unsigned as unsignedOf, signed as signedOf, flag as flagOf, hexValue, negative, positive};
 ghost use Rattle.replay.specs.Values.{numeralOf, signedNumeralOf, switchOf, nibbleOf, inDigits, Unhexes};
 
 pub enum Numeral {

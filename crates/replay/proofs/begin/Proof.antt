@@ -1,18 +1,14 @@
 -- `replay::begin` meets its contract: settings out of range give the record that is no unit yet. Assumes nothing.
-use mathlib.Core.Path.{_≡_, refl, ap}
+use mathlib.Core.Path.{ap}
 use native.Mathlib.Omega.{arith}
 use borrow.Author.Needs.{needs}
-use lib.IntN.{pos}
-use Rattle.unit.specs.Outcome.{Outcome}
-use Rattle.unit.specs.WellFormed.{settingsLegal, powerLegal}
+use Rattle.unit.specs.WellFormed.{settingsLegal}
 use Rattle.unit.specs.declared.TagUnit.{TagUnit}
-use Rattle.tag.specs.Calls.{newUnit, noUnit}
+use Rattle.tag.specs.Calls.{newUnit}
 use Rattle.replay.specs.Replay.{power}
 use Rattle.replay.specs.Feeding.{reading}
 use Rattle.replay.proofs.begin.Statement.{statement}
 use Rattle.replay.proofs.begin.Tie as tie
-use Rattle.replay.proofs.begin.Reads as reads
-use Rattle.replay.proofs.begin.Lts as lts
 
 new-unit-requires : tie.Need-new-unit-requires
 new-unit-requires c κs = search needs

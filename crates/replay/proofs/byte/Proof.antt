@@ -1,17 +1,12 @@
 -- `replay::byte` meets its contract: a newline closes the line, another byte makes it longer or too long. Assumes nothing.
-use Rattle.replay.proofs.Pieces.{byte-closes, byte-breaks, takes-more, takes-line}
 use borrow.Author.Needs.{needs}
-use lib.ListN.{length, take}
+use lib.ListN.{length}
 use lib.Seq.{length-take-le}
 use mathlib.Core.Path.{_≡_, sym}
 use native.Mathlib.Omega.{arith}
+use Rattle.replay.proofs.Pieces.{byte-closes, byte-breaks, takes-more, takes-line}
 use Rattle.replay.proofs.byte.Statement.{statement}
 use Rattle.replay.proofs.byte.Tie as tie
-use Rattle.replay.proofs.byte.Reads as reads
-use Rattle.replay.proofs.byte.Lts as lts
-use Rattle.replay.proofs.answers.breaks.Reads as breaks-reads
-use Rattle.replay.proofs.closing.close.Reads as close-reads
-use Rattle.replay.proofs.opened.Reads as opened-reads
 
 line-long : (c : tie.Start) → length (c .args .s .line) ≡ 256
 line-long c = search needs

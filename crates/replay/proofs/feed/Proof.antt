@@ -1,15 +1,11 @@
 -- `replay::feed` meets its contract: a session that is not sound takes nothing, another takes the piece. Assumes nothing.
-use Rattle.laws.proofs.Flags.{clash}
-use Rattle.replay.specs.Feeding.{fed}
 use borrow.Author.Needs.{needs}
 use mathlib.Core.Path.{refl}
 use native.Mathlib.Omega.{arith}
+use Rattle.laws.proofs.Flags.{clash}
+use Rattle.replay.specs.Feeding.{fed}
 use Rattle.replay.proofs.feed.Statement.{statement}
 use Rattle.replay.proofs.feed.Tie as tie
-use Rattle.replay.proofs.feed.Reads as reads
-use Rattle.replay.proofs.feed.Lts as lts
-use Rattle.replay.proofs.sound.Reads as sound-reads
-use Rattle.replay.proofs.take.Reads as take-reads
 
 sound-requires : tie.Need-sound-requires
 sound-requires c κs = search needs

@@ -10,10 +10,6 @@ use Rattle.replay.specs.Session.{eventNext}
 use Rattle.replay.proofs.Ending.{no-room, over, nothing-left, malformed-left}
 use Rattle.replay.proofs.finish.Statement.{statement}
 use Rattle.replay.proofs.finish.Tie as tie
-use Rattle.replay.proofs.finish.Reads as reads
-use Rattle.replay.proofs.finish.Lts as lts
-use Rattle.replay.proofs.answers.malformed.Reads as malformed-reads
-use Rattle.replay.proofs.event_next.Reads as event-next-reads
 
 returns : tie.Need-returns
 returns c = no-room (c .before .before .args .s) (c .before .before .args .out .now) (c .if1 .taken)

@@ -1,12 +1,9 @@
 -- `replay::sound` meets its contract, a count each. Assumes nothing.
-use mathlib.Core.Bool.{true≢false, false≢true}
+use mathlib.Core.Bool.{false≢true}
 use native.Mathlib.Omega.{arith}
-use borrow.Author.Needs.{needs}
 use borrow.Author.Tests.{le-leb, leb-true}
 use Rattle.replay.proofs.sound.Statement.{statement}
 use Rattle.replay.proofs.sound.Tie as tie
-use Rattle.replay.proofs.sound.Reads as reads
-use Rattle.replay.proofs.sound.Lts as lts
 
 returns : tie.Need-returns
 returns c = record { soundIf = λ e. absurd (false≢true e); onlyIf = λ s. absurd (omega (arith, s .withinLine)) }

@@ -1,15 +1,12 @@
 -- `replay::take` meets its contract: after `taken` bytes the session is the state of the feeding. Assumes nothing.
 use Prim.Native.Nat.{_-_}
-use Rattle.replay.proofs.Pieces.{Passed, passed-none, passed-next, passed-ended, fed-so-far}
 use lib.ListN.{length}
 use mathlib.Core.Logic.{inl, inr}
 use mathlib.Core.Path.{refl}
 use native.Mathlib.Omega.{arith}
+use Rattle.replay.proofs.Pieces.{Passed, passed-none, passed-next, passed-ended, fed-so-far}
 use Rattle.replay.proofs.take.Statement.{statement}
 use Rattle.replay.proofs.take.Tie as tie
-use Rattle.replay.proofs.take.Reads as reads
-use Rattle.replay.proofs.take.Lts as lts
-use Rattle.replay.proofs.byte.Reads as byte-reads
 
 abbrev Inv-loop : tie.InvT-loop
 Inv-loop piece out₀ session₀ written₀ taken₀ out session written taken = Passed session₀ piece out₀ session written taken out

@@ -4,10 +4,6 @@ use mathlib.Core.Path.{refl}
 use native.Mathlib.Omega.{arith}
 use Rattle.replay.proofs.answers.answered.Statement.{statement}
 use Rattle.replay.proofs.answers.answered.Tie as tie
-use Rattle.replay.proofs.answers.answered.Reads as reads
-use Rattle.replay.proofs.answers.answered.Lts as lts
-use Rattle.replay.proofs.answers.refused.Reads as refused-reads
-use Rattle.replay.proofs.answers.success.Reads as success-reads
 
 enum-known-reply : tie.Need-enum-known-reply
 enum-known-reply c = search needs

@@ -1,13 +1,10 @@
 -- `replay::answers::breaks` meets its contract: the run is ended, and the text is of at most 33 bytes. Assumes nothing.
 use native.Mathlib.Omega.{arith}
 use mathlib.Core.Path.{refl}
-use Rattle.replay.proofs.Texts.{length-malformed}
 use borrow.Author.Needs.{needs}
+use Rattle.replay.proofs.Texts.{length-malformed}
 use Rattle.replay.proofs.answers.breaks.Statement.{statement}
 use Rattle.replay.proofs.answers.breaks.Tie as tie
-use Rattle.replay.proofs.answers.breaks.Reads as reads
-use Rattle.replay.proofs.answers.breaks.Lts as lts
-use Rattle.replay.proofs.answers.malformed.Reads as malformed-reads
 
 malformed-requires : tie.Need-malformed-requires
 malformed-requires c κs = search needs

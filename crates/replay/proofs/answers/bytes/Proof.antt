@@ -1,13 +1,10 @@
 -- `replay::answers::bytes` meets its contract: no bytes print nothing. Assumes nothing.
-use Rattle.replay.proofs.Placed.{puts-nothing}
-use Rattle.replay.proofs.Texts.{bytes-none, bytes-some}
 use borrow.Author.Needs.{needs}
 use native.Mathlib.Omega.{arith}
+use Rattle.replay.proofs.Placed.{puts-nothing}
+use Rattle.replay.proofs.Texts.{bytes-none, bytes-some}
 use Rattle.replay.proofs.answers.bytes.Statement.{statement}
 use Rattle.replay.proofs.answers.bytes.Tie as tie
-use Rattle.replay.proofs.answers.bytes.Reads as reads
-use Rattle.replay.proofs.answers.bytes.Lts as lts
-use Rattle.replay.proofs.text.hex_line.Reads as hex-line-reads
 
 returns : tie.Need-returns
 returns c = rw (← bytes-none (c .before .before .before .args .answer .now) (omega arith)) (puts-nothing (c .before .before .before .args .at) (c .before .before .before .args .out .now))

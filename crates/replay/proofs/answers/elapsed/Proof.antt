@@ -1,18 +1,13 @@
 -- `replay::answers::elapsed` meets its contract: the title, the notes and the clock, one after another. Assumes nothing.
-use Rattle.replay.proofs.Placed.{puts-then}
-use Rattle.replay.proofs.Texts.{length-notes}
 use borrow.Author.Needs.{needs}
-use lib.ListN.{length, take}
+use lib.ListN.{take}
 use lib.Seq.{length-take-le}
 use mathlib.Core.Path.{sym}
 use native.Mathlib.Omega.{arith}
+use Rattle.replay.proofs.Placed.{puts-then}
+use Rattle.replay.proofs.Texts.{length-notes}
 use Rattle.replay.proofs.answers.elapsed.Statement.{statement}
 use Rattle.replay.proofs.answers.elapsed.Tie as tie
-use Rattle.replay.proofs.answers.elapsed.Reads as reads
-use Rattle.replay.proofs.answers.elapsed.Lts as lts
-use Rattle.replay.proofs.answers.notes.Reads as notes-reads
-use Rattle.replay.proofs.text.decimal_line.Reads as decimal-line-reads
-use Rattle.replay.proofs.text.put.Reads as put-reads
 
 slice-aggregate-put : tie.Need-slice-aggregate-put
 slice-aggregate-put c = search needs

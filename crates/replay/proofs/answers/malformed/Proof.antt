@@ -1,11 +1,8 @@
 -- `replay::answers::malformed` meets its contract: the number behind a text. Assumes nothing.
-use Rattle.replay.specs.Event.{malformedText}
 use borrow.Author.Needs.{needs}
+use Rattle.replay.specs.Event.{malformedText}
 use Rattle.replay.proofs.answers.malformed.Statement.{statement}
 use Rattle.replay.proofs.answers.malformed.Tie as tie
-use Rattle.replay.proofs.answers.malformed.Reads as reads
-use Rattle.replay.proofs.answers.malformed.Lts as lts
-use Rattle.replay.proofs.text.decimal_line.Reads as decimal-line-reads
 
 slice-aggregate-decimal-line : tie.Need-slice-aggregate-decimal-line
 slice-aggregate-decimal-line c = search needs

@@ -1,19 +1,14 @@
 -- `replay::answers::notes` meets its contract: without a notice 0, else 1, the tenth and the notice. Assumes nothing.
-use Rattle.replay.proofs.Decimal.{length-decimal}
-use Rattle.replay.proofs.Placed.{puts-then}
-use Rattle.replay.proofs.Texts.{notes-none, notes-some}
-use Rattle.replay.specs.Text.{decimal, newline}
 use borrow.Author.Needs.{needs}
 use lib.ListN.{length-append}
 use mathlib.Core.List.{[], _∷_}
 use native.Mathlib.Omega.{arith}
+use Rattle.replay.specs.Text.{decimal, newline}
+use Rattle.replay.proofs.Decimal.{length-decimal}
+use Rattle.replay.proofs.Placed.{puts-then}
+use Rattle.replay.proofs.Texts.{notes-none, notes-some}
 use Rattle.replay.proofs.answers.notes.Statement.{statement}
 use Rattle.replay.proofs.answers.notes.Tie as tie
-use Rattle.replay.proofs.answers.notes.Reads as reads
-use Rattle.replay.proofs.answers.notes.Lts as lts
-use Rattle.replay.proofs.answers.bytes.Reads as bytes-reads
-use Rattle.replay.proofs.text.decimal_line.Reads as decimal-line-reads
-use Rattle.replay.proofs.text.put.Reads as put-reads
 
 slice-aggregate-put : tie.Need-slice-aggregate-put
 slice-aggregate-put c = search needs

@@ -4,10 +4,6 @@ use mathlib.Core.Path.{refl}
 use native.Mathlib.Omega.{arith}
 use Rattle.replay.proofs.answers.passed.Statement.{statement}
 use Rattle.replay.proofs.answers.passed.Tie as tie
-use Rattle.replay.proofs.answers.passed.Reads as reads
-use Rattle.replay.proofs.answers.passed.Lts as lts
-use Rattle.replay.proofs.answers.elapsed.Reads as elapsed-reads
-use Rattle.replay.proofs.answers.refused.Reads as refused-reads
 
 enum-known-reply : tie.Need-enum-known-reply
 enum-known-reply c = search needs

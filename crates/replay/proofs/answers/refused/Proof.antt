@@ -1,12 +1,8 @@
 -- `replay::answers::refused` meets its contract: the refusal's number behind a text. Assumes nothing.
-use Rattle.replay.specs.Event.{refusedText}
 use borrow.Author.Needs.{needs}
+use Rattle.replay.specs.Event.{refusedText}
 use Rattle.replay.proofs.answers.refused.Statement.{statement}
 use Rattle.replay.proofs.answers.refused.Tie as tie
-use Rattle.replay.proofs.answers.refused.Reads as reads
-use Rattle.replay.proofs.answers.refused.Lts as lts
-use Rattle.replay.proofs.answers.code.Reads as code-reads
-use Rattle.replay.proofs.text.hex_line.Reads as hex-line-reads
 
 code-requires : tie.Need-code-requires
 code-requires c κs = search needs

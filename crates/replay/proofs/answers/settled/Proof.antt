@@ -3,10 +3,6 @@ use borrow.Author.Needs.{needs}
 use mathlib.Core.Path.{refl}
 use Rattle.replay.proofs.answers.settled.Statement.{statement}
 use Rattle.replay.proofs.answers.settled.Tie as tie
-use Rattle.replay.proofs.answers.settled.Reads as reads
-use Rattle.replay.proofs.answers.settled.Lts as lts
-use Rattle.replay.proofs.answers.refused.Reads as refused-reads
-use Rattle.replay.proofs.text.put.Reads as put-reads
 
 enum-told : tie.Need-enum-told
 enum-told c = search needs

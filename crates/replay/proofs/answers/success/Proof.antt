@@ -1,16 +1,11 @@
 -- `replay::answers::success` meets its contract: the title, and then the bytes. Assumes nothing.
 use native.Mathlib.Omega.{arith}
 use mathlib.Core.Path.{sym}
-use lib.ListN.{length, take}
 use lib.Seq.{length-take-le}
-use Rattle.replay.proofs.Placed.{puts-then}
 use borrow.Author.Needs.{needs}
+use Rattle.replay.proofs.Placed.{puts-then}
 use Rattle.replay.proofs.answers.success.Statement.{statement}
 use Rattle.replay.proofs.answers.success.Tie as tie
-use Rattle.replay.proofs.answers.success.Reads as reads
-use Rattle.replay.proofs.answers.success.Lts as lts
-use Rattle.replay.proofs.answers.bytes.Reads as bytes-reads
-use Rattle.replay.proofs.text.put.Reads as put-reads
 
 put-requires : tie.Need-put-requires
 put-requires c κs = search needs

@@ -1,25 +1,19 @@
 -- `replay::closing::act` meets its contract: what was read is kept for the lines that follow, or is done. Assumes nothing.
-use Rattle.replay.proofs.ClosedLines.{closes-told, closes-moved}
+use borrow.Author.Needs.{needs}
+use lib.ListN.{take}
+use lib.Seq.{length-take-le}
+use mathlib.Core.Path.{refl, sym, ap}
+use mir.Syntax.{w32}
+use mir.Val.{toZ, ofZ}
+use native.Mathlib.Omega.{arith}
 use Rattle.replay.specs.Feeding.{closed}
 use Rattle.replay.specs.Replay as replay
 use Rattle.replay.specs.Session.{expecting}
 use Rattle.replay.specs.declared.Next.the-variants as next
 use Rattle.replay.specs.declared.Run.{Run}
-use borrow.Author.Needs.{needs}
-use lib.ListN.{length, take}
-use lib.Seq.{length-take-le}
-use mathlib.Core.Path.{_≡_, refl, sym, ap}
-use mir.Syntax.{w32}
-use mir.Val.{toZ, ofZ}
-use native.Mathlib.Omega.{arith}
+use Rattle.replay.proofs.ClosedLines.{closes-told, closes-moved}
 use Rattle.replay.proofs.closing.act.Statement.{statement}
 use Rattle.replay.proofs.closing.act.Tie as tie
-use Rattle.replay.proofs.closing.act.Reads as reads
-use Rattle.replay.proofs.closing.act.Lts as lts
-use Rattle.replay.proofs.answers.breaks.Reads as breaks-reads
-use Rattle.replay.proofs.closing.bring.Reads as bring-reads
-use Rattle.replay.proofs.closing.follow.Reads as follow-reads
-use Rattle.replay.proofs.closing.settle.Reads as settle-reads
 
 enum-known-what : tie.Need-enum-known-what
 enum-known-what c = search needs

@@ -1,16 +1,12 @@
 -- `replay::closing::bring` meets its contract: the event is performed, and the run is at the next line. Assumes nothing.
-use Rattle.replay.proofs.Performed.{closes-event}
 use borrow.Author.Needs.{needs}
-use lib.ListN.{length, take}
+use lib.ListN.{length}
 use lib.Seq.{length-take-le}
 use mathlib.Core.Path.{_≡_, sym}
 use native.Mathlib.Omega.{arith}
+use Rattle.replay.proofs.Performed.{closes-event}
 use Rattle.replay.proofs.closing.bring.Statement.{statement}
 use Rattle.replay.proofs.closing.bring.Tie as tie
-use Rattle.replay.proofs.closing.bring.Reads as reads
-use Rattle.replay.proofs.closing.bring.Lts as lts
-use Rattle.replay.proofs.closing.advance.Reads as advance-reads
-use Rattle.replay.proofs.events.perform.Reads as perform-reads
 
 array-share-prefix-r : tie.Need-array-share-prefix-r
 array-share-prefix-r c =

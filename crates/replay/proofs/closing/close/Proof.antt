@@ -1,17 +1,11 @@
 -- `replay::closing::close` meets its contract: a line within the limits is judged by what is expected. Assumes nothing.
-use Rattle.replay.proofs.ClosedLines.{judged-is, judged-late, closes-as}
-use Rattle.replay.specs.Feeding.{closed}
 use borrow.Author.Needs.{needs}
 use lib.ListN.{take}
 use mathlib.Core.Path.{refl, _∙_}
-use native.Mathlib.Omega.{arith}
+use Rattle.replay.specs.Feeding.{closed}
+use Rattle.replay.proofs.ClosedLines.{judged-is, judged-late, closes-as}
 use Rattle.replay.proofs.closing.close.Statement.{statement}
 use Rattle.replay.proofs.closing.close.Tie as tie
-use Rattle.replay.proofs.closing.close.Reads as reads
-use Rattle.replay.proofs.closing.close.Lts as lts
-use Rattle.replay.proofs.answers.breaks.Reads as breaks-reads
-use Rattle.replay.proofs.closing.act.Reads as act-reads
-use Rattle.replay.proofs.lines.read.Reads as read-reads
 
 breaks-requires : tie.Need-breaks-requires
 breaks-requires c κs = search needs

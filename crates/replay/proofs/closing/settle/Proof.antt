@@ -3,23 +3,19 @@ use mathlib.Core.Path.{subst, _≡_, refl, sym, ap, _∙_}
 use lib.IntN.{ℤ}
 use mir.Syntax.{w32}
 use mir.Val.{toZ, ofZ}
-use Rattle.unit.specs.Outcome.{Settles}
-use Rattle.unit.specs.declared.Reply.{Reply}
-use Rattle.replay.proofs.ClosedLines.{closes-fed, begunBy, begins-by}
 use borrow.Author.Needs.{needs}
 use native.Mathlib.Omega.{arith}
 use native.Mathlib.Numerals.{add-one}
+use Rattle.unit.specs.Outcome.{Settles}
+use Rattle.unit.specs.declared.Reply.{Reply}
 use Rattle.unit.specs.Refusals.{number}
 use Rattle.tag.specs.Calls.{newUnit}
 use Rattle.replay.specs.Feeding.{closed}
+use Rattle.replay.proofs.ClosedLines.{closes-fed, begunBy, begins-by}
 use Rattle.replay.proofs.Placed.{puts-nothing}
 use Rattle.replay.proofs.Texts.{length-refused}
 use Rattle.replay.proofs.closing.settle.Statement.{statement}
 use Rattle.replay.proofs.closing.settle.Tie as tie
-use Rattle.replay.proofs.closing.settle.Reads as reads
-use Rattle.replay.proofs.closing.settle.Lts as lts
-use Rattle.replay.proofs.answers.refused.Reads as refused-reads
-use Rattle.replay.proofs.closing.advance.Reads as advance-reads
 
 -- a power in a record fits its bits
 power-kept : (c : tie.After-struct-told) → toZ w32 (ofZ w32 (c .before .before .args .run .power)) ≡ c .before .before .args .run .power

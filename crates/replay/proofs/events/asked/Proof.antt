@@ -1,20 +1,13 @@
 -- `replay::events::asked` meets its contract: what the call answers is what its event prints. Assumes nothing.
-use Rattle.replay.proofs.Performed.{answers-within, performs-answered}
-use Rattle.replay.specs.Event as event
-use Rattle.replay.specs.Event.{performed, successText}
-use Rattle.replay.specs.Text.{ascii}
 use borrow.Author.Needs.{needs}
 use mathlib.Core.Path.{refl}
 use native.Mathlib.Omega.{arith}
+use Rattle.replay.specs.Event as event
+use Rattle.replay.specs.Event.{performed, successText}
+use Rattle.replay.specs.Text.{ascii}
+use Rattle.replay.proofs.Performed.{answers-within, performs-answered}
 use Rattle.replay.proofs.events.asked.Statement.{statement}
 use Rattle.replay.proofs.events.asked.Tie as tie
-use Rattle.replay.proofs.events.asked.Reads as reads
-use Rattle.replay.proofs.events.asked.Lts as lts
-use Rattle.replay.proofs.answers.answered.Reads as answered-reads
-use Rattle.tag.proofs.advertise.Reads as advertise-reads
-use Rattle.tag.proofs.button.Reads as button-reads
-use Rattle.tag.proofs.read.Reads as read-reads
-use Rattle.tag.proofs.write.Reads as write-reads
 
 enum-told : tie.Need-enum-told
 enum-told c = search needs

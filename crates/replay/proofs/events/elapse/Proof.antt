@@ -1,16 +1,12 @@
 -- `replay::events::elapse` meets its contract: the notes and the clock are those of the call. Assumes nothing.
 use Prim.Native.Nat.{_+_, _≤_}
-use Rattle.replay.proofs.Performed.{answers-within, performs-passed}
-use Rattle.replay.specs.Event.{performed}
 use borrow.Author.Needs.{needs}
 use lib.ListN.{length}
 use native.Mathlib.Omega.{arith}
+use Rattle.replay.specs.Event.{performed}
+use Rattle.replay.proofs.Performed.{answers-within, performs-passed}
 use Rattle.replay.proofs.events.elapse.Statement.{statement}
 use Rattle.replay.proofs.events.elapse.Tie as tie
-use Rattle.replay.proofs.events.elapse.Reads as reads
-use Rattle.replay.proofs.events.elapse.Lts as lts
-use Rattle.replay.proofs.answers.passed.Reads as passed-reads
-use Rattle.tag.proofs.elapsed.Reads as elapsed-reads
 
 slice-aggregate-elapsed : tie.Need-slice-aggregate-elapsed
 slice-aggregate-elapsed c = search needs

@@ -2,11 +2,6 @@
 use borrow.Author.Needs.{needs}
 use Rattle.replay.proofs.events.perform.Statement.{statement}
 use Rattle.replay.proofs.events.perform.Tie as tie
-use Rattle.replay.proofs.events.perform.Reads as reads
-use Rattle.replay.proofs.events.perform.Lts as lts
-use Rattle.replay.proofs.events.asked.Reads as asked-reads
-use Rattle.replay.proofs.events.elapse.Reads as elapse-reads
-use Rattle.replay.proofs.events.set.Reads as set-reads
 
 enum-known-e : tie.Need-enum-known-e
 enum-known-e c = search needs

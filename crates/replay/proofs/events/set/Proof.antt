@@ -1,20 +1,13 @@
 -- `replay::events::set` meets its contract: the end of the call is what its event prints. Assumes nothing.
-use Rattle.replay.proofs.Performed.{performs-settled}
-use Rattle.replay.specs.Event as event
-use Rattle.replay.specs.Event.{performed, successText}
-use Rattle.replay.specs.Text.{ascii}
 use borrow.Author.Needs.{needs}
 use mathlib.Core.Path.{refl}
 use native.Mathlib.Omega.{arith}
+use Rattle.replay.specs.Event as event
+use Rattle.replay.specs.Event.{performed, successText}
+use Rattle.replay.specs.Text.{ascii}
+use Rattle.replay.proofs.Performed.{performs-settled}
 use Rattle.replay.proofs.events.set.Statement.{statement}
 use Rattle.replay.proofs.events.set.Tie as tie
-use Rattle.replay.proofs.events.set.Reads as reads
-use Rattle.replay.proofs.events.set.Lts as lts
-use Rattle.replay.proofs.answers.settled.Reads as settled-reads
-use Rattle.tag.proofs.account_key.Reads as account-key-reads
-use Rattle.tag.proofs.battery.Reads as battery-reads
-use Rattle.tag.proofs.lend_identifier.Reads as lend-identifier-reads
-use Rattle.tag.proofs.pairing.Reads as pairing-reads
 
 enum-known-what : tie.Need-enum-known-what
 enum-known-what c = search needs

@@ -1,16 +1,11 @@
 -- `replay::lines::event` meets its contract: the name behind the key decides. Assumes nothing.
-use Rattle.replay.proofs.Behind.{key-fits}
-use Rattle.replay.proofs.ClosedLines.{keyed-line, unkeyed-line}
-use Rattle.replay.specs.Replay.{taken, named}
-use Rattle.replay.specs.Text.{ascii}
 use borrow.Author.Needs.{needs}
 use mathlib.Core.Path.{_∙_}
+use Rattle.replay.specs.Replay.{taken, named}
+use Rattle.replay.specs.Text.{ascii}
+use Rattle.replay.proofs.Behind.{key-fits, keyed-line, unkeyed-line}
 use Rattle.replay.proofs.lines.event.Statement.{statement}
 use Rattle.replay.proofs.lines.event.Tie as tie
-use Rattle.replay.proofs.lines.event.Reads as reads
-use Rattle.replay.proofs.lines.event.Lts as lts
-use Rattle.replay.proofs.lines.named.Reads as named-reads
-use Rattle.replay.proofs.reading.begins.Reads as begins-reads
 
 slice-aggregate-begins : tie.Need-slice-aggregate-begins
 slice-aggregate-begins c = search needs

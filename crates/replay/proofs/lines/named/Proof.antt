@@ -1,13 +1,10 @@
 -- `replay::lines::named` meets its contract: each test is one of the definition's. Assumes nothing.
-use Rattle.replay.proofs.Behind.{met, skip}
-use Rattle.replay.specs.Replay.{named}
 use borrow.Author.Needs.{needs}
 use mathlib.Core.Path.{refl}
+use Rattle.replay.specs.Replay.{named}
+use Rattle.replay.proofs.Behind.{met, skip}
 use Rattle.replay.proofs.lines.named.Statement.{statement}
 use Rattle.replay.proofs.lines.named.Tie as tie
-use Rattle.replay.proofs.lines.named.Reads as reads
-use Rattle.replay.proofs.lines.named.Lts as lts
-use Rattle.replay.proofs.reading.is.Reads as is-reads
 
 slice-aggregate-is : tie.Need-slice-aggregate-is
 slice-aggregate-is c = search needs

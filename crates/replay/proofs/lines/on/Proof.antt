@@ -1,19 +1,33 @@
 -- `replay::lines::on` meets its contract: the value behind the key, or a line that breaks the order. Assumes nothing.
-use Rattle.replay.proofs.ClosedLines.{value-line}
+use borrow.Author.Needs.{needs}
+use borrow.Author.Tests.{not-true, not-false}
 use Rattle.replay.specs.Event.{pairing}
 use Rattle.replay.specs.Reading.{flag}
-use Rattle.replay.specs.Replay.{taken, brings}
+use Rattle.replay.specs.Replay.{taken, given, brings}
 use Rattle.replay.specs.Text.{ascii}
 use Rattle.replay.specs.Values.{switchOf}
-use borrow.Author.Needs.{needs}
+use Rattle.replay.proofs.Behind.{key-fits, unkeyed-line, value-line}
 use Rattle.replay.proofs.lines.on.Statement.{statement}
 use Rattle.replay.proofs.lines.on.Tie as tie
-use Rattle.replay.proofs.lines.on.Reads as reads
-use Rattle.replay.proofs.lines.on.Lts as lts
-use Rattle.replay.proofs.keyed.flag.Reads as flag-reads
 
-slice-aggregate-flag : tie.Need-slice-aggregate-flag
-slice-aggregate-flag c = search needs
+slice-aggregate-begins : tie.Need-slice-aggregate-begins
+slice-aggregate-begins c = search needs
+
+begins-requires : tie.Need-begins-requires
+begins-requires c κs = search needs
+
+returns : tie.Need-returns
+unfolding taken
+returns c = record { lineIs = λ p n k m b. unkeyed-line (ascii "on=") (c .before .before .before .before .args .line .now) (c .before .begins .ensures) (λ v. given (flag v) (λ x. brings (pairing x))) (not-true _ (c .if1 .taken)) }
+
+sub-flag : tie.Need-sub-flag
+sub-flag c = key-fits (ascii "on=") (c .before .before .before .before .args .line .now) (c .before .begins .ensures) (not-false _ (c .if1 .left))
+
+part-flag-start : tie.Need-part-flag-start
+part-flag-start c = key-fits (ascii "on=") (c .before .before .before .before .args .line .now) (c .before .begins .ensures) (not-false _ (c .if1 .left))
+
+part-flag-end : tie.Need-part-flag-end
+part-flag-end c = search needs
 
 flag-requires : tie.Need-flag-requires
 flag-requires c κs = search needs
@@ -24,15 +38,26 @@ enum-known-on c = search needs
 enum-told : tie.Need-enum-told
 enum-told c = search needs
 
-returns : tie.Need-returns
-unfolding taken
-returns c = record { lineIs = λ p n k m b. value-line switchOf (ascii "on=") flag (λ x. brings (pairing x)) (c .before .before .before .before .before .before .args .line .now) (c .before .before .before .flag .ensures) (c .before .on .given .1) }
-
 returns-2 : tie.Need-returns-2
 unfolding taken
-returns-2 c = record { lineIs = λ p n k m b. value-line switchOf (ascii "on=") flag (λ x. brings (pairing x)) (c .before .before .before .before .before .args .line .now) (c .before .before .flag .ensures) (c .enum-told .given .1) }
+returns-2 c = record { lineIs = λ p n k m b. value-line (ascii "on=") (c .before .before .before .before .before .before .before .before .before .args .line .now) (c .before .before .before .before .before .before .begins .ensures) switchOf flag (λ x. brings (pairing x)) (not-false _ (c .before .before .before .before .before .if1 .left)) (c .before .before .before .flag .ensures) (c .before .on .given .1) }
+
+returns-3 : tie.Need-returns-3
+unfolding taken
+returns-3 c = record { lineIs = λ p n k m b. value-line (ascii "on=") (c .before .before .before .before .before .before .before .before .args .line .now) (c .before .before .before .before .before .begins .ensures) switchOf flag (λ x. brings (pairing x)) (not-false _ (c .before .before .before .before .if1 .left)) (c .before .before .flag .ensures) (c .enum-told .given .1) }
 
 pub on-spec : {M : Type 1} → statement M
 on-spec =
     tie.close
-    (tie.spec slice-aggregate-flag flag-requires enum-known-on enum-told returns returns-2)
+    (tie.spec
+    slice-aggregate-begins
+    begins-requires
+    returns
+    sub-flag
+    part-flag-start
+    part-flag-end
+    flag-requires
+    enum-known-on
+    enum-told
+    returns-2
+    returns-3)

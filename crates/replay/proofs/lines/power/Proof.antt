@@ -1,21 +1,35 @@
 -- `replay::lines::power` meets its contract: the value behind the key, or a line that breaks the order. Assumes nothing.
-use Rattle.replay.proofs.ClosedLines.{value-line}
-use Rattle.replay.specs.Reading.{signed}
-use Rattle.replay.specs.Replay.{taken, follows, components}
-use Rattle.replay.specs.Text.{ascii}
-use Rattle.replay.specs.Values.{signedNumeralOf}
 use borrow.Author.Needs.{needs}
-use mathlib.Core.Path.{_≡_, refl, sym, ap, _∙_}
+use borrow.Author.Tests.{not-true, not-false}
+use mathlib.Core.Path.{_≡_, ap, _∙_}
 use mir.Syntax.{w32}
 use mir.Val.{toZ, ofZ}
+use Rattle.replay.specs.Reading.{signed}
+use Rattle.replay.specs.Replay.{taken, given, follows, components}
+use Rattle.replay.specs.Text.{ascii}
+use Rattle.replay.specs.Values.{signedNumeralOf}
+use Rattle.replay.proofs.Behind.{key-fits, unkeyed-line, value-line}
 use Rattle.replay.proofs.lines.power.Statement.{statement}
 use Rattle.replay.proofs.lines.power.Tie as tie
-use Rattle.replay.proofs.lines.power.Reads as reads
-use Rattle.replay.proofs.lines.power.Lts as lts
-use Rattle.replay.proofs.keyed.signed.Reads as signed-reads
 
-slice-aggregate-signed : tie.Need-slice-aggregate-signed
-slice-aggregate-signed c = search needs
+slice-aggregate-begins : tie.Need-slice-aggregate-begins
+slice-aggregate-begins c = search needs
+
+begins-requires : tie.Need-begins-requires
+begins-requires c κs = search needs
+
+returns : tie.Need-returns
+unfolding taken
+returns c = record { lineIs = λ p n k m b. unkeyed-line (ascii "power=") (c .before .before .before .before .args .line .now) (c .before .begins .ensures) (λ v. given (signed v) (λ x. follows (components x))) (not-true _ (c .if1 .taken)) }
+
+sub-signed : tie.Need-sub-signed
+sub-signed c = key-fits (ascii "power=") (c .before .before .before .before .args .line .now) (c .before .begins .ensures) (not-false _ (c .if1 .left))
+
+part-signed-start : tie.Need-part-signed-start
+part-signed-start c = key-fits (ascii "power=") (c .before .before .before .before .args .line .now) (c .before .begins .ensures) (not-false _ (c .if1 .left))
+
+part-signed-end : tie.Need-part-signed-end
+part-signed-end c = search needs
 
 signed-requires : tie.Need-signed-requires
 signed-requires c κs = search needs
@@ -26,22 +40,28 @@ enum-known-p c = search needs
 enum-told : tie.Need-enum-told
 enum-told c = search needs
 
-returns : tie.Need-returns
-unfolding taken
-returns c =
-    let kept : toZ w32 (ofZ w32 (c .before .p .given .0 .0)) ≡ c .before .p .given .0 .0 = search needs in
-    record {
-      lineIs =
-          λ p n k m b.
-          ap (λ (z : _). follows (components z)) kept
-          ∙ value-line signedNumeralOf (ascii "power=") signed (λ z. follows (components z)) (c .before .before .before .before .before .before .args .line .now) (c .before .before .before .signed .ensures) (c .before .p .given .1);
-    }
-
 returns-2 : tie.Need-returns-2
 unfolding taken
-returns-2 c = record { lineIs = λ p n k m b. value-line signedNumeralOf (ascii "power=") signed (λ z. follows (components z)) (c .before .before .before .before .before .args .line .now) (c .before .before .signed .ensures) (c .enum-told .given .1) }
+returns-2 c =
+    let kept : toZ w32 (ofZ w32 (c .before .p .given .0 .0)) ≡ c .before .p .given .0 .0 = search needs in
+    record { lineIs = λ p n k m b. ap (λ (z : _). follows (components z)) kept ∙ value-line (ascii "power=") (c .before .before .before .before .before .before .before .before .before .args .line .now) (c .before .before .before .before .before .before .begins .ensures) signedNumeralOf signed (λ x. follows (components x)) (not-false _ (c .before .before .before .before .before .if1 .left)) (c .before .before .before .signed .ensures) (c .before .p .given .1) }
+
+returns-3 : tie.Need-returns-3
+unfolding taken
+returns-3 c = record { lineIs = λ p n k m b. value-line (ascii "power=") (c .before .before .before .before .before .before .before .before .args .line .now) (c .before .before .before .before .before .begins .ensures) signedNumeralOf signed (λ x. follows (components x)) (not-false _ (c .before .before .before .before .if1 .left)) (c .before .before .signed .ensures) (c .enum-told .given .1) }
 
 pub power-spec : {M : Type 1} → statement M
 power-spec =
     tie.close
-    (tie.spec slice-aggregate-signed signed-requires enum-known-p enum-told returns returns-2)
+    (tie.spec
+    slice-aggregate-begins
+    begins-requires
+    returns
+    sub-signed
+    part-signed-start
+    part-signed-end
+    signed-requires
+    enum-known-p
+    enum-told
+    returns-2
+    returns-3)

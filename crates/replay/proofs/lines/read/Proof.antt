@@ -1,17 +1,9 @@
 -- `replay::lines::read` meets its contract: what is expected says behind which key the value stands. Assumes nothing.
-use Rattle.replay.proofs.ClosedLines.{says-plain, says-number, says-at}
-use Rattle.replay.specs.Replay.{taken}
 use borrow.Author.Needs.{needs}
+use Rattle.replay.specs.Replay.{taken}
+use Rattle.replay.proofs.ClosedLines.{says-plain, says-number, says-at}
 use Rattle.replay.proofs.lines.read.Statement.{statement}
 use Rattle.replay.proofs.lines.read.Tie as tie
-use Rattle.replay.proofs.lines.read.Reads as reads
-use Rattle.replay.proofs.lines.read.Lts as lts
-use Rattle.replay.proofs.lines.event.Reads as event-reads
-use Rattle.replay.proofs.lines.number.Reads as number-reads
-use Rattle.replay.proofs.lines.octets.Reads as octets-reads
-use Rattle.replay.proofs.lines.on.Reads as on-reads
-use Rattle.replay.proofs.lines.plain.Reads as plain-reads
-use Rattle.replay.proofs.lines.power.Reads as power-reads
 
 enum-told : tie.Need-enum-told
 enum-told c = search needs

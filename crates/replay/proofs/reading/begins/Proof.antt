@@ -1,16 +1,13 @@
 -- `replay::reading::begins` meets its contract: at every turn the bytes from place `i` on decide. Assumes nothing.
 use Prim.Native.Nat.{_≤_, _-_}
 use mathlib.Core.Path.{_≡_, refl, sym, _∙_}
-use mathlib.Core.List.{List}
 use native.Mathlib.Omega.{arith}
-use lib.ListN.{length, take, drop, getD, length-take}
+use lib.ListN.{length, take, drop, length-take}
 use lib.Seq.{length-take-le, getD-take}
 use Rattle.laws.specs.Bytes.{sameBytes}
 use Rattle.laws.proofs.Same.{same-next, same-stop, same-end, lengths-differ}
 use Rattle.replay.proofs.reading.begins.Statement.{statement}
 use Rattle.replay.proofs.reading.begins.Tie as tie
-use Rattle.replay.proofs.reading.begins.Reads as reads
-use Rattle.replay.proofs.reading.begins.Lts as lts
 
 abbrev Inv-loop : tie.InvT-loop
 Inv-loop text key i₀ i =

@@ -1,14 +1,12 @@
 -- `replay::reading::digits` meets its contract: the digits passed give the value, and the rest of the text decides. Assumes nothing.
 use Prim.Native.Nat.{_+_, _*_, _≤_, _<_, _-_, _^_}
-use mathlib.Core.Path.{_≡_, refl, sym, _∙_}
+use mathlib.Core.Path.{_≡_, refl, _∙_}
 use native.Mathlib.Omega.{arith}
 use lib.ListN.{length, drop, getD}
 use Rattle.replay.specs.Reading.{allDigits, valueFrom}
 use Rattle.replay.proofs.Numerals.{digits-next, digits-low, digits-high, digits-end, value-next, value-end, value-grows, no-digits, too-large, in-digits}
 use Rattle.replay.proofs.reading.digits.Statement.{statement}
 use Rattle.replay.proofs.reading.digits.Tie as tie
-use Rattle.replay.proofs.reading.digits.Reads as reads
-use Rattle.replay.proofs.reading.digits.Lts as lts
 
 abbrev Inv-loop : tie.InvT-loop
 Inv-loop text value₀ i₀ value i =

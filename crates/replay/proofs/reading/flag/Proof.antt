@@ -1,12 +1,9 @@
 -- `replay::reading::flag` meets its contract: the two tests are the definition's. Assumes nothing.
 use mathlib.Core.Path.{sym, _∙_}
-use Rattle.replay.specs.Reading.{flag}
 use borrow.Author.Needs.{needs}
+use Rattle.replay.specs.Reading.{flag}
 use Rattle.replay.proofs.reading.flag.Statement.{statement}
 use Rattle.replay.proofs.reading.flag.Tie as tie
-use Rattle.replay.proofs.reading.flag.Reads as reads
-use Rattle.replay.proofs.reading.flag.Lts as lts
-use Rattle.replay.proofs.reading.is.Reads as is-reads
 
 slice-aggregate-is : tie.Need-slice-aggregate-is
 slice-aggregate-is c = search needs

@@ -3,13 +3,10 @@ use mathlib.Core.Path.{sym, _∙_}
 use native.Mathlib.Omega.{arith}
 use lib.Seq.{take-all}
 use lib.ListN.{length}
-use Rattle.laws.proofs.Same.{lengths-differ}
 use borrow.Author.Needs.{needs}
+use Rattle.laws.proofs.Same.{lengths-differ}
 use Rattle.replay.proofs.reading.is.Statement.{statement}
 use Rattle.replay.proofs.reading.is.Tie as tie
-use Rattle.replay.proofs.reading.is.Reads as reads
-use Rattle.replay.proofs.reading.is.Lts as lts
-use Rattle.replay.proofs.reading.begins.Reads as begins-reads
 
 returns : tie.Need-returns
 returns c =

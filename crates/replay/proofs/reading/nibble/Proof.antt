@@ -1,14 +1,11 @@
 -- `replay::reading::nibble` meets its contract: each test is one of the definition's. Assumes nothing.
 use Prim.Native.Nat.{_-_}
-use Rattle.replay.specs.Values.{nibbleOf}
 use native.Mathlib.Omega.{arith}
-use borrow.Author.Tests.{lt-ltb, le-ltb, le-leb, lt-leb}
-use Rattle.replay.specs.Reading.{hexValue}
+use borrow.Author.Tests.{lt-ltb, le-leb, lt-leb}
 use borrow.Author.Needs.{needs}
+use Rattle.replay.specs.Reading.{hexValue}
 use Rattle.replay.proofs.reading.nibble.Statement.{statement}
 use Rattle.replay.proofs.reading.nibble.Tie as tie
-use Rattle.replay.proofs.reading.nibble.Reads as reads
-use Rattle.replay.proofs.reading.nibble.Lts as lts
 
 returns : tie.Need-returns
 unfolding hexValue

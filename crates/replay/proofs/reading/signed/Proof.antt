@@ -1,21 +1,16 @@
 -- `replay::reading::signed` meets its contract: the digits with or without a minus before them. Assumes nothing.
-use mathlib.Core.Option.{none, some, Option}
-use Rattle.replay.specs.Values.{numeralOf}
+use mathlib.Core.Option.{none, some}
 use Prim.Native.Nat.{_-_}
 use mathlib.Core.Path.{_≡_, sym, ap, _∙_}
 use native.Mathlib.Omega.{arith}
 use borrow.Author.Needs.{needs}
 use lib.ListN.{length, drop, take, length-drop}
 use lib.Seq.{take-all}
-use Rattle.replay.specs.Reading.{unsigned, negative, positive, signed}
-use Rattle.replay.proofs.Numerals.{andThen, signed-none, signed-below, signed-above}
+use Rattle.replay.specs.Values.{numeralOf}
+use Rattle.replay.specs.Reading.{unsigned}
+use Rattle.replay.proofs.Numerals.{signed-none, signed-below, signed-above}
 use Rattle.replay.proofs.reading.signed.Statement.{statement}
 use Rattle.replay.proofs.reading.signed.Tie as tie
-use Rattle.replay.proofs.reading.signed.Reads as reads
-use Rattle.replay.proofs.reading.signed.Lts as lts
-use Rattle.replay.proofs.reading.above.Reads as above-reads
-use Rattle.replay.proofs.reading.below.Reads as below-reads
-use Rattle.replay.proofs.reading.unsigned.Reads as unsigned-reads
 
 returns : tie.Need-returns
 returns c = signed-none (c .before .before .args .text .now) (omega arith)

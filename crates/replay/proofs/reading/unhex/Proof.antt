@@ -1,17 +1,14 @@
 -- `replay::reading::unhex` meets its contract: the bytes read so far stand in front of what the rest of the text gives. Assumes nothing.
-use Prim.Native.Nat.{_+_, _*_, _≤_, _<_, _-_}
-use mathlib.Core.Path.{_≡_, refl, sym, ap, _∙_}
+use Prim.Native.Nat.{_+_, _*_, _≤_, _-_}
+use mathlib.Core.Path.{_≡_, sym, _∙_}
 use mathlib.Core.List.{append-nil}
 use native.Mathlib.Omega.{arith}
-use lib.ListN.{length, take, drop, getD, length-set}
+use lib.ListN.{length, take, drop, getD}
 use borrow.Author.Needs.{needs}
-use Rattle.replay.specs.Reading.{bytes, hexValue, pairValue}
+use Rattle.replay.specs.Reading.{bytes, pairValue}
 use Rattle.replay.proofs.Unhexed.{joined, joined-none, joined-more, bytes-end, bytes-odd, bytes-pair, wrong-nibble, right-nibble, wrong-low}
 use Rattle.replay.proofs.reading.unhex.Statement.{statement}
 use Rattle.replay.proofs.reading.unhex.Tie as tie
-use Rattle.replay.proofs.reading.unhex.Reads as reads
-use Rattle.replay.proofs.reading.unhex.Lts as lts
-use Rattle.replay.proofs.reading.nibble.Reads as nibble-reads
 
 abbrev Inv-loop : tie.InvT-loop
 Inv-loop text into₀ count₀ at₀ into count at =

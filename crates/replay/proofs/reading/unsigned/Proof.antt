@@ -1,18 +1,14 @@
 -- `replay::reading::unsigned` meets its contract: the tests are on the numeral's shape, and the digits decide. Assumes nothing.
-use mathlib.Core.Path.{_≡_, sym, _∙_}
-use mathlib.Core.Bool.{true, not}
+use mathlib.Core.Path.{_≡_, _∙_}
+use mathlib.Core.Bool.{true}
 use mathlib.Core.Logic.{⊎-elim}
 use native.Mathlib.Omega.{arith}
-use lib.Dec.{eqb, ltb}
 use lib.ListN.{length, getD}
 use borrow.Author.Tests.{eq-eqb, ne-eqb, lt-ltb, le-ltb}
-use Rattle.replay.proofs.Numerals.{no-shape, in-shape, shaped}
 use borrow.Author.Needs.{needs}
+use Rattle.replay.proofs.Numerals.{no-shape, in-shape, shaped}
 use Rattle.replay.proofs.reading.unsigned.Statement.{statement}
 use Rattle.replay.proofs.reading.unsigned.Tie as tie
-use Rattle.replay.proofs.reading.unsigned.Reads as reads
-use Rattle.replay.proofs.reading.unsigned.Lts as lts
-use Rattle.replay.proofs.reading.digits.Reads as digits-reads
 
 returns : tie.Need-returns
 returns c =

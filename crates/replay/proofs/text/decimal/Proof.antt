@@ -1,20 +1,17 @@
 -- `replay::text::decimal` meets its contract: what is left of the number and the digits behind `first` are the whole. Assumes nothing.
-use Prim.Native.Nat.{ℕ, _%_, _+_, _*_, _≤_, _<_, _-_}
+use Prim.Native.Nat.{ℕ, _%_, _+_, _≤_, _<_, _-_}
 use mathlib.Core.Logic.{_⊎_, ⊎-elim, inl, inr}
 use mathlib.Core.List.{List, append-nil}
-use lib.ListN.{set, length, take, drop, length-set, length-take, length-drop}
+use lib.ListN.{set, length, take, drop, length-set, length-drop}
 use borrow.Author.Tests.{ltb-true, ltb-false}
 use mathlib.Core.Path.{_≡_, sym, _∙_}
 use native.Mathlib.Omega.{arith}
 use lib.Seq.{take-all}
 use borrow.Author.Needs.{needs}
-use Rattle.replay.specs.Text.{decimal, decimalIn}
+use Rattle.replay.specs.Text.{decimal}
 use Rattle.replay.proofs.Decimal.{digitsFrom, digits-more, digits-last}
 use Rattle.replay.proofs.text.decimal.Statement.{statement}
 use Rattle.replay.proofs.text.decimal.Tie as tie
-use Rattle.replay.proofs.text.decimal.Reads as reads
-use Rattle.replay.proofs.text.decimal.Lts as lts
-use Rattle.replay.proofs.text.put.Reads as put-reads
 
 abbrev Inv-loop : tie.InvT-loop
 Inv-loop out at n digits₀ first₀ rest₀ digits first rest = (first ≤ 9) × ((length digits ≡ 10) × (decimal n ≡ digitsFrom first rest digits))

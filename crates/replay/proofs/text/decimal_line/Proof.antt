@@ -1,14 +1,10 @@
 -- `replay::text::decimal_line` meets its contract: the number between two texts. Assumes nothing.
-use Rattle.replay.proofs.Decimal.{length-decimal}
-use Rattle.replay.proofs.Placed.{puts-around}
 use borrow.Author.Needs.{needs}
 use native.Mathlib.Omega.{arith}
+use Rattle.replay.proofs.Decimal.{length-decimal}
+use Rattle.replay.proofs.Placed.{puts-around}
 use Rattle.replay.proofs.text.decimal_line.Statement.{statement}
 use Rattle.replay.proofs.text.decimal_line.Tie as tie
-use Rattle.replay.proofs.text.decimal_line.Reads as reads
-use Rattle.replay.proofs.text.decimal_line.Lts as lts
-use Rattle.replay.proofs.text.decimal.Reads as decimal-reads
-use Rattle.replay.proofs.text.put.Reads as put-reads
 
 put-requires : tie.Need-put-requires
 put-requires c κs = search needs

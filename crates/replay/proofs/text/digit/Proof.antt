@@ -1,11 +1,9 @@
 -- `replay::text::digit` meets its contract: the two branches are those of the definition. Assumes nothing.
 use borrow.Author.Tests.{lt-ltb, le-ltb}
-use Rattle.replay.specs.Text.{hexDigit}
 use borrow.Author.Needs.{needs}
+use Rattle.replay.specs.Text.{hexDigit}
 use Rattle.replay.proofs.text.digit.Statement.{statement}
 use Rattle.replay.proofs.text.digit.Tie as tie
-use Rattle.replay.proofs.text.digit.Reads as reads
-use Rattle.replay.proofs.text.digit.Lts as lts
 
 add-result : tie.Need-add-result
 add-result c = search needs

@@ -11,9 +11,6 @@ use Rattle.replay.proofs.Placed.{placed-none}
 use Rattle.replay.proofs.Hex.{hex-turn, length-hex}
 use Rattle.replay.proofs.text.hex.Statement.{statement}
 use Rattle.replay.proofs.text.hex.Tie as tie
-use Rattle.replay.proofs.text.hex.Reads as reads
-use Rattle.replay.proofs.text.hex.Lts as lts
-use Rattle.replay.proofs.text.digit.Reads as digit-reads
 
 abbrev Inv-loop : tie.InvT-loop
 Inv-loop out₀ at bytes next₀ i₀ out next i =

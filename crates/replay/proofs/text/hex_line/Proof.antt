@@ -1,14 +1,10 @@
 -- `replay::text::hex_line` meets its contract: the bytes between two texts. Assumes nothing.
-use Rattle.replay.proofs.Hex.{length-hex}
-use Rattle.replay.proofs.Placed.{puts-around}
 use borrow.Author.Needs.{needs}
 use native.Mathlib.Omega.{arith}
+use Rattle.replay.proofs.Hex.{length-hex}
+use Rattle.replay.proofs.Placed.{puts-around}
 use Rattle.replay.proofs.text.hex_line.Statement.{statement}
 use Rattle.replay.proofs.text.hex_line.Tie as tie
-use Rattle.replay.proofs.text.hex_line.Reads as reads
-use Rattle.replay.proofs.text.hex_line.Lts as lts
-use Rattle.replay.proofs.text.hex.Reads as hex-reads
-use Rattle.replay.proofs.text.put.Reads as put-reads
 
 put-requires : tie.Need-put-requires
 put-requires c κs = search needs

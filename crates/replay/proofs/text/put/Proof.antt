@@ -4,14 +4,12 @@ use Prim.Native.Nat.{_≤_, _-_}
 use mathlib.Core.Path.{_≡_, sym, _∙_}
 use native.Mathlib.Numerals.{add-one}
 use native.Mathlib.Omega.{arith}
-use lib.ListN.{length, take, length-take, length-set}
+use lib.ListN.{length, take}
 use lib.Seq.{take-suc, take-all, length-take-le}
 use Rattle.replay.specs.Written.{placed}
-use Rattle.replay.proofs.Placed.{placed-none, placed-one, length-placed}
+use Rattle.replay.proofs.Placed.{placed-none, placed-one}
 use Rattle.replay.proofs.text.put.Statement.{statement}
 use Rattle.replay.proofs.text.put.Tie as tie
-use Rattle.replay.proofs.text.put.Reads as reads
-use Rattle.replay.proofs.text.put.Lts as lts
 
 abbrev Inv-loop : tie.InvT-loop
 Inv-loop out₀ at bytes i₀ out i = (i ≤ length bytes) × ((length out ≡ length out₀) × (out ≡ placed at (take i bytes) out₀))
