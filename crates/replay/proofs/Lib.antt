@@ -10,3 +10,4 @@ pub mod Performed
 pub mod ClosedLines
 pub mod Pieces
 pub mod Ending
+pub mod Hosts

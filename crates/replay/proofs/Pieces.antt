@@ -1,15 +1,14 @@
 -- A piece that is taken byte by byte: what holds after some bytes, what one more does, and that an ended run takes the rest. Assumes nothing.
-use Prim.Native.Nat.{ℕ, _+_, _-_, _≤_, _<_}
+use Prim.Native.Nat.{ℕ, suc, _+_, _-_, _≤_, _<_}
 use mathlib.Core.Path.{_≡_, refl, sym, ap, _∙_}
-use mathlib.Core.Bool.{true, false}
-use mathlib.Core.Logic.{_⊎_}
-use mathlib.Core.List.{List, [], _∷_, _++_, append-nil}
-use native.Mathlib.Nat.{zero-add}
+use mathlib.Core.Bool.{Bool, true, false, cond}
+use mathlib.Core.List.{List, [], _∷_, _++_, append-assoc, append-nil}
+use native.Mathlib.Nat.{zero-add, sub-zero}
 use native.Mathlib.Numerals.{add-one}
 use native.Mathlib.Omega.{arith}
-use lib.ListN.{length, take, drop, set, getD, take-append-drop}
-use lib.Seq.{take-suc, take-all, take-suc-set, length-take-le}
-use borrow.Author.Tests.{eq-eqb, ne-eqb, lt-ltb, le-ltb}
+use lib.ListN.{length, take, drop, set, getD, length-append, length-drop, take-append-drop}
+use lib.Seq.{take-suc, take-all, take-suc-set, length-take-le, drop-cons, drop-length}
+use borrow.Author.Tests.{eq-eqb, ne-eqb, lt-ltb, le-ltb, le-leb, lt-leb}
 use Rattle.replay.specs.declared.Run.{Run}
 use Rattle.replay.specs.declared.Session.{Session}
 use Rattle.replay.specs.Text.{newline}
@@ -17,7 +16,7 @@ use Rattle.replay.specs.Event.{malformedText}
 use Rattle.replay.specs.Replay.{judged, longestLine}
 use Rattle.replay.specs.Feeding.{State, reading, ended, Fed, fed, fedTo, byte, closed}
 use Rattle.replay.specs.Written.{Puts}
-use Rattle.replay.specs.Session.{SoundRun, Sound, stateOf, expectedOf, lineRoom, Closes, Takes, Feeds}
+use Rattle.replay.specs.Session.{SoundRun, Sound, stateOf, expectedOf, lineRoom, takes, GoesOn, Closes, Takes, Feeds}
 use Rattle.replay.proofs.Placed.{puts-then, puts-nothing, placed-first}
 use Rattle.replay.proofs.AnyPieces.{fed-append, fed-ended}
 
@@ -29,6 +28,32 @@ pub record Passed (s : Session) (piece before : List ℕ) (session : Session) (w
   pub within : written ≤ length before
   pub kept : length out ≡ length before
   pub sound : Sound session
+  pub rest : takes (length before) piece (stateOf s) ≡ taken + takes (length before - written) (drop taken piece) (stateOf session)
+
+-- what is taken of a piece: a byte more where there is room, nothing where there is none, all once the run has ended
+takes-next : (room b : ℕ) (bs : List ℕ) (session : Session) → session .run .ended ≡ false → lineRoom ≤ room
+    → takes room (b ∷ bs) (stateOf session)
+    ≡ suc (takes (room - length (byte b (stateOf session) .printed)) bs (byte b (stateOf session) .state))
+unfolding takes
+takes-next room b bs session going h = rw (going, le-leb lineRoom room h)
+
+takes-stops : (room b : ℕ) (bs : List ℕ) (session : Session) → session .run .ended ≡ false → room < lineRoom → takes room (b ∷ bs) (stateOf session) ≡ 0
+unfolding takes
+takes-stops room b bs session going h = rw (going, lt-leb lineRoom room h)
+
+takes-ended : (room : ℕ) (bs : List ℕ) → takes room bs ended ≡ length bs
+unfolding takes
+takes-ended room [] = refl
+takes-ended room (b ∷ bs) = refl
+
+takes-none : (room : ℕ) (s : State) → takes room [] s ≡ 0
+unfolding takes
+takes-none room s = refl
+
+pub goes-on : GoesOn
+unfolding takes
+goes-on room b bs ended h = omega arith
+goes-on room b bs (reading e n u part) h = rw (le-leb lineRoom room h) (omega arith)
 
 fed-next : (piece : List ℕ) (s : State) (i : ℕ) → i < length piece
     → fed (take (i + 1) piece) s
@@ -49,15 +74,30 @@ passed-none s piece before sound =
       within = omega arith;
       kept = refl;
       sound = sound;
+      rest = ap (λ (room : ℕ). takes room piece (stateOf s)) (sym (sub-zero (length before))) ∙ sym (zero-add _);
     }
 
 module _ {s : Session} {piece before : List ℕ} {session : Session} {written taken : ℕ} {out : List ℕ}
     (p : Passed s piece before session written taken out) where
+  rest-next : taken < length piece → session .run .ended ≡ false → written + lineRoom ≤ length before → {session′ : Session} {written′ : ℕ} {out′ : List ℕ}
+      → Takes session (getD piece taken 0) written out session′ written′ out′
+      → takes (length before) piece (stateOf s) ≡ taken + 1 + takes (length before - written′) (drop (taken + 1) piece) (stateOf session′)
+  rest-next h going room {session′} {written′} {out′} t =
+      let b = getD piece taken 0 in
+      let f : Fed = byte b (stateOf session) in
+      let left : length before - written - length (f .printed) ≡ length before - written′ = omega (arith, t .puts .nextIs) in
+      let one : takes (length before - written) (drop taken piece) (stateOf session)
+      ≡ suc (takes (length before - written′) (drop (taken + 1) piece) (stateOf session′)) =
+      ap (λ (l : List ℕ). takes (length before - written) l (stateOf session)) (drop-cons piece taken 0 h)
+      ∙ takes-next (length before - written) b (drop (suc taken) piece) session going (omega arith)
+      ∙ rw (left, add-one taken, t .stateIs) in
+      p .rest ∙ omega (arith, one)
+
   -- a byte more
-  pub passed-next : taken < length piece → written + lineRoom ≤ length before → {session′ : Session} {written′ : ℕ} {out′ : List ℕ}
+  pub passed-next : taken < length piece → session .run .ended ≡ false → written + lineRoom ≤ length before → {session′ : Session} {written′ : ℕ} {out′ : List ℕ}
       → Takes session (getD piece taken 0) written out session′ written′ out′ → length out′ ≡ length before
       → Passed s piece before session′ written′ (taken + 1) out′
-  passed-next h room {session′} {written′} {out′} t long =
+  passed-next h going room {session′} {written′} {out′} t long =
       let f : Fed = byte (getD piece taken 0) (stateOf session) in
       let next : fed (take (taken + 1) piece) (stateOf s) ≡ fedTo (f .state) (fed (take taken piece) (stateOf s) .printed ++ f .printed) =
       fed-next piece (stateOf s) taken h ∙ rw (← p .stateIs) in
@@ -68,25 +108,42 @@ module _ {s : Session} {piece before : List ℕ} {session : Session} {written ta
         within = omega (arith, t .puts .nextIs, t .few);
         kept = long;
         sound = t .sound;
+        rest = rest-next h going room t;
       }
 
-  -- what was taken is what `feed` promises
-  pub fed-so-far : (taken ≡ length piece) ⊎ (length before < written + lineRoom) → Feeds s piece before session taken written out
-  fed-so-far stop =
+  -- what was taken is what `feed` promises, where no more would be
+  pub fed-so-far : Sound s → takes (length before - written) (drop taken piece) (stateOf session) ≡ 0 → Feeds s piece before session taken written out
+  fed-so-far start stop =
       let size : written ≡ length (fed (take taken piece) (stateOf s) .printed) = p .puts .nextIs ∙ zero-add _ in
       record {
-        takenIs = p .inPiece;
+        takenIs = λ _. omega (arith, p .rest, stop);
+        takesNothing = λ unsound. absurd (unsound start);
         stateIs = p .stateIs;
         writtenIs = size;
         bytesAre = p .puts .bytesAre ∙ placed-first _ before ∙ rw size;
         staysSound = λ _. p .sound;
-        goesOn = λ _. stop;
       }
+
+  -- no more is taken where the piece is over, and where there is too little room
+  pub over : taken ≡ length piece → takes (length before - written) (drop taken piece) (stateOf session) ≡ 0
+  over e =
+      ap (λ (l : List ℕ). takes (length before - written) l (stateOf session)) (rw e (drop-length piece))
+      ∙ takes-none (length before - written) (stateOf session)
+
+  pub no-room : taken < length piece → session .run .ended ≡ false → length before - written < lineRoom
+      → takes (length before - written) (drop taken piece) (stateOf session) ≡ 0
+  no-room h going low =
+      ap (λ (l : List ℕ). takes (length before - written) l (stateOf session)) (drop-cons piece taken 0 h)
+      ∙ takes-stops (length before - written) (getD piece taken 0) (drop (suc taken) piece) session going low
 
   -- a run that has ended takes the rest and prints nothing
   pub passed-ended : session .run .ended ≡ true → Passed s piece before session written (length piece) out
-  passed-ended over =
-      let state : fed (take taken piece) (stateOf s) .state ≡ ended = sym (p .stateIs) ∙ rw over in
+  passed-ended done =
+      let state : fed (take taken piece) (stateOf s) .state ≡ ended = sym (p .stateIs) ∙ rw done in
+      let all : takes (length before - written) (drop taken piece) (stateOf session) ≡ length piece - taken =
+      rw done (takes-ended (length before - written) (drop taken piece) ∙ length-drop taken piece) in
+      let none : takes (length before - written) (drop (length piece) piece) (stateOf session) ≡ 0 =
+      rw (drop-length piece) (takes-none (length before - written) (stateOf session)) in
       let rest : fed piece (stateOf s) ≡ fedTo ended (fed (take taken piece) (stateOf s) .printed) =
       ap (λ (l : List ℕ). fed l (stateOf s)) (sym (take-append-drop taken piece))
       ∙ fed-append (take taken piece) (drop taken piece) (stateOf s)
@@ -95,11 +152,12 @@ module _ {s : Session} {piece before : List ℕ} {session : Session} {written ta
       ap (λ (l : List ℕ). fed l (stateOf s)) (take-all (length piece) piece (omega arith)) ∙ rest in
       record {
         inPiece = omega arith;
-        stateIs = rw (whole, over);
+        stateIs = rw (whole, done);
         puts = rw whole (p .puts);
         within = p .within;
         kept = p .kept;
         sound = p .sound;
+        rest = omega (arith, p .rest, all, none, p .inPiece);
       }
 
 -- what a byte does to a session that goes on

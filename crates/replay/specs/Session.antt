@@ -1,9 +1,8 @@
 -- A session of the code as a state of the feeding, and what the calls on it promise. Assumes nothing.
-use Prim.Native.Nat.{ℕ, _+_, _≤_, _<_}
+use Prim.Native.Nat.{ℕ, suc, _+_, _-_, _≤_, _<_}
 use mathlib.Core.Path.{_≡_}
 use mathlib.Core.Bool.{Bool, true, false, cond}
-use mathlib.Core.List.{List, [], _++_}
-use mathlib.Core.Logic.{_⊎_}
+use mathlib.Core.List.{List, [], _∷_, _++_}
 use mathlib.Core.Option.{Option}
 use lib.Dec.{leb}
 use lib.ListN.{length, take, drop}
@@ -33,7 +32,7 @@ use Rattle.replay.specs.Event.{Event, read, write, elapsed, button, pair
 use Rattle.replay.specs.Reading.{after}
 use Rattle.replay.specs.Replay as replay
 use Rattle.replay.specs.Replay.{Line, follows, brings, settles, breaks, given, Expected, power, components, volume, nonce, «data», tenths, on, level, keyBytes, r, id, longestLine, mostLines}
-use Rattle.replay.specs.Feeding.{State, reading, ended, Fed, byte, fed, finish, closed}
+use Rattle.replay.specs.Feeding.{State, reading, ended, Fed, byte, fed, finish, closed, first}
 
 -- what is expected, with what was read before it
 abbrev pub expecting : Next → ℤ → ℕ → List ℕ → Expected
@@ -74,7 +73,7 @@ pub record SoundBy (s : Session) (answer : Bool) : Type 0 where
   pub soundIf : answer ≡ true → Sound s
   pub onlyIf : Sound s → answer ≡ true
 
--- "at most 256 bytes": room for what one line prints
+-- Our own choice: room for more than any one line prints
 abbrev pub lineRoom : ℕ
 lineRoom = 256
 
@@ -203,15 +202,29 @@ pub record Takes (s : Session) (b at : ℕ) (before : List ℕ) (session : Sessi
   pub few : length (byte b (stateOf s) .printed) ≤ lineRoom
   pub puts : Puts (byte b (stateOf s) .printed) at before written after
 
--- What `feed` promises: how much of the piece it took and printed, the state after it, all of the lent bytes; and that it goes on while there is
--- room, so that a caller's loop ends. A session that is not sound takes nothing
+-- How many bytes of a piece are taken where `room` bytes are lent: one more while the room left holds what any line prints, and all of them
+-- once the run has ended
+unfoldable pub takes : ℕ → List ℕ → State → ℕ
+takes room [] s = 0
+takes room (b ∷ bs) ended = suc (length bs)
+takes room (b ∷ bs) (reading e n u part) =
+    cond (leb lineRoom room)
+    (suc (takes (room - length (byte b (reading e n u part) .printed)) bs (byte b (reading e n u part) .state)))
+    0
+
+-- so a caller's loop ends: with that room, something of a piece that is not empty is taken
+abbrev pub GoesOn : Type 0
+GoesOn = (room b : ℕ) (bs : List ℕ) (s : State) → lineRoom ≤ room → 0 < takes room (b ∷ bs) s
+
+-- What `feed` promises: how much of the piece it took, what it printed, the state after it, and all of the lent bytes. A session that is not
+-- sound takes nothing
 pub record Feeds (s : Session) (piece before : List ℕ) (session : Session) (taken written : ℕ) (after : List ℕ) : Type 0 where
-  pub takenIs : taken ≤ length piece
+  pub takenIs : Sound s → taken ≡ takes (length before) piece (stateOf s)
+  pub takesNothing : (Sound s → ⊥) → taken ≡ 0
   pub stateIs : stateOf session ≡ fed (take taken piece) (stateOf s) .state
   pub writtenIs : written ≡ length (fed (take taken piece) (stateOf s) .printed)
   pub bytesAre : after ≡ fed (take taken piece) (stateOf s) .printed ++ drop written before
   pub staysSound : Sound s → Sound session
-  pub goesOn : Sound s → (taken ≡ length piece) ⊎ (length before < written + lineRoom)
 
 abbrev pub eventNext : Next → Bool
 eventNext next.Event = true
@@ -227,7 +240,7 @@ eventNext next.KeyBytes = false
 eventNext next.R = false
 eventNext next.Id = false
 
--- What `finish` promises
+-- Our own choice: with fewer lent bytes `finish` writes nothing and says so
 abbrev pub finishRoom : ℕ
 finishRoom = 64
 
@@ -241,6 +254,19 @@ finishedAs text before = choose (leb finishRoom (length before)) (finished.Wrote
 abbrev pub finishedBytes : List ℕ → List ℕ → List ℕ
 finishedBytes text before = cond (leb finishRoom (length before)) (text ++ drop (length text) before) before
 
+-- What `finish` promises
 pub record Finishes (s : Session) (before : List ℕ) (r : Finished) (after : List ℕ) : Type 0 where
   pub resultIs : r ≡ finishedAs (finish (stateOf s)) before
   pub bytesAre : after ≡ finishedBytes (finish (stateOf s)) before
+
+-- Calls of `feed`, each on the session that the one before it gave: the bytes that they took and the bytes that they wrote, in total
+pub data Calls : Session → List ℕ → List ℕ → Session → Type 0 where
+  none : {s : Session} → Calls s [] [] s
+  more : {s t z : Session} {piece before after input output : List ℕ} {taken written : ℕ}
+      → Feeds s piece before t taken written after → Calls t input output z → Calls s (take taken piece ++ input) (take written after ++ output) z
+
+-- So a host that begins, feeds a file in any pieces and finishes has written what `replay` gives for the file
+abbrev pub AnyHost : Type 0
+AnyHost =
+    (s z : Session) (input output before after : List ℕ) (n : ℕ) → stateOf s ≡ first → Calls s input output z
+    → Finishes z before (finished.Wrote n) after → output ++ take n after ≡ replay.replay input

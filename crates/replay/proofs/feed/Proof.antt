@@ -23,12 +23,12 @@ returns-2 : tie.Need-returns-2
 unfolding fed
 returns-2 c =
     record {
-      takenIs = omega arith;
+      takenIs = λ s. absurd (clash (c .before .sound .ensures .onlyIf s) (c .if1 .left));
+      takesNothing = λ unsound. refl;
       stateIs = refl;
       writtenIs = refl;
       bytesAre = refl;
       staysSound = λ s. s;
-      goesOn = λ s. absurd (clash (c .before .sound .ensures .onlyIf s) (c .if1 .left));
     }
 
 pub feed-spec : {M : Type 1} → statement M

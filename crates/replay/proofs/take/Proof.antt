@@ -1,10 +1,9 @@
 -- `replay::take` meets its contract: after `taken` bytes the session is the state of the feeding. Assumes nothing.
 use Prim.Native.Nat.{_-_}
+use Rattle.replay.proofs.Pieces.{Passed, passed-none, passed-next, passed-ended, fed-so-far, over, no-room}
 use lib.ListN.{length}
-use mathlib.Core.Logic.{inl, inr}
 use mathlib.Core.Path.{refl}
 use native.Mathlib.Omega.{arith}
-use Rattle.replay.proofs.Pieces.{Passed, passed-none, passed-next, passed-ended, fed-so-far}
 use Rattle.replay.proofs.take.Statement.{statement}
 use Rattle.replay.proofs.take.Tie as tie
 
@@ -21,7 +20,9 @@ same-length : tie.Need-same-length Inv-loop μ-loop
 same-length c = c .before .before .loop .inv .kept
 
 returns : tie.Need-returns Inv-loop μ-loop
-returns c = fed-so-far (passed-ended (c .before .before .loop .inv) (c .if1 .taken)) (inl refl)
+returns c =
+    let all = passed-ended (c .before .before .loop .inv) (c .if1 .taken) in
+    fed-so-far all (c .before .before .before .before .before .pre) (over all refl)
 
 sub-if2 : tie.Need-sub-if2 Inv-loop μ-loop
 sub-if2 c = omega (arith, c .before .before .loop .inv .within, c .before .before .loop .inv .kept)
@@ -41,19 +42,24 @@ loop-less c = omega (arith, c .before .before .before .before .before .before .b
 loop-again : tie.Need-loop-again Inv-loop μ-loop
 loop-again c =
     let inv = c .before .before .before .before .before .before .before .before .before .loop .inv in
-    passed-next inv (c .before .before .before .before .before .before .before .before .loop-test .taken) (omega (arith, inv .within, inv .kept, c .before .before .before .before .before .before .if2 .left)) (c .before .before .before .byte .ensures) (omega (arith, inv .kept))
+    passed-next inv (c .before .before .before .before .before .before .before .before .loop-test .taken) (c .before .before .before .before .before .before .before .if1 .left) (omega (arith, inv .within, inv .kept, c .before .before .before .before .before .before .if2 .left)) (c .before .before .before .byte .ensures) (omega (arith, inv .kept))
 
 same-length-2 : tie.Need-same-length-2 Inv-loop μ-loop
 same-length-2 c = c .before .loop .inv .kept
 
 returns-2 : tie.Need-returns-2 Inv-loop μ-loop
-returns-2 c = fed-so-far (c .before .loop .inv) (inl (omega (arith, c .loop-test .left, c .before .loop .inv .inPiece)))
+returns-2 c =
+    let inv = c .before .loop .inv in
+    fed-so-far inv (c .before .before .before .before .pre) (over inv (omega (arith, c .loop-test .left, inv .inPiece)))
 
 same-length-3 : tie.Need-same-length-3 Inv-loop μ-loop
 same-length-3 c = c .before .before .before .loop .inv .kept
 
 returns-3 : tie.Need-returns-3 Inv-loop μ-loop
-returns-3 c = fed-so-far (c .before .before .before .loop .inv) (inr (omega (arith, c .if2 .taken, c .before .before .before .loop .inv .within, c .before .before .before .loop .inv .kept)))
+returns-3 c =
+    let inv = c .before .before .before .loop .inv in
+    fed-so-far inv (c .before .before .before .before .before .before .pre)
+    (no-room inv (c .before .before .loop-test .taken) (c .before .if1 .left) (omega (arith, c .if2 .taken, inv .kept)))
 
 pub take-spec : {M : Type 1} → statement M
 take-spec =
