@@ -6,7 +6,7 @@ use mathlib.Core.List.{List, [], _∷_, _++_, append-assoc, append-nil}
 use native.Mathlib.Nat.{zero-add, sub-zero}
 use native.Mathlib.Numerals.{add-one}
 use native.Mathlib.Omega.{arith}
-use lib.ListN.{length, take, drop, set, getD, length-append, length-drop, take-append-drop}
+use lib.ListN.{length, take, drop, set, getD, length-append, length-drop, length-set, take-append-drop}
 use lib.Seq.{take-suc, take-all, take-suc-set, length-take-le, drop-cons, drop-length}
 use borrow.Author.Tests.{eq-eqb, ne-eqb, lt-ltb, le-ltb, le-leb, lt-leb}
 use Rattle.replay.specs.declared.Run.{Run}
@@ -28,6 +28,7 @@ pub record Passed (s : Session) (piece before : List ℕ) (session : Session) (w
   pub within : written ≤ length before
   pub kept : length out ≡ length before
   pub sound : Sound session
+  pub lineLong : length (session .line) ≡ longestLine
   pub rest : takes (length before) piece (stateOf s) ≡ taken + takes (length before - written) (drop taken piece) (stateOf session)
 
 -- what is taken of a piece: a byte more where there is room, nothing where there is none, all once the run has ended
@@ -64,9 +65,9 @@ fed-next piece s i h =
     rw (add-one i, take-suc piece i 0 h) (fed-append (take i piece) (getD piece i 0 ∷ []) s ∙ rw append-nil)
 
 -- nothing is taken yet
-pub passed-none : (s : Session) (piece before : List ℕ) → Sound s → Passed s piece before s 0 0 before
+pub passed-none : (s : Session) (piece before : List ℕ) → Sound s → length (s .line) ≡ longestLine → Passed s piece before s 0 0 before
 unfolding fed
-passed-none s piece before sound =
+passed-none s piece before sound long =
     record {
       inPiece = omega arith;
       stateIs = refl;
@@ -74,6 +75,7 @@ passed-none s piece before sound =
       within = omega arith;
       kept = refl;
       sound = sound;
+      lineLong = long;
       rest = ap (λ (room : ℕ). takes room piece (stateOf s)) (sym (sub-zero (length before))) ∙ sym (zero-add _);
     }
 
@@ -108,6 +110,7 @@ module _ {s : Session} {piece before : List ℕ} {session : Session} {written ta
         within = omega (arith, t .puts .nextIs, t .few);
         kept = long;
         sound = t .sound;
+        lineLong = t .lineStays (p .lineLong);
         rest = rest-next h going room t;
       }
 
@@ -157,6 +160,7 @@ module _ {s : Session} {piece before : List ℕ} {session : Session} {written ta
         within = p .within;
         kept = p .kept;
         sound = p .sound;
+        lineLong = p .lineLong;
         rest = omega (arith, p .rest, all, none, p .inPiece);
       }
 
@@ -185,15 +189,17 @@ module _ (s : Session) (b : ℕ) (going : s .run .ended ≡ false) (long : lengt
         sound = record { soundRun = sound; withinLine = omega arith };
         few = rw grows (omega arith);
         puts = rw grows (puts-nothing at before);
+        lineStays = λ e. length-set (s .line) (s .count) b ∙ e;
       }
 
--- a byte that ends a line
+-- a byte that ends a line, of which nothing is kept
 pub takes-line : {s : Session} {b : ℕ} {f : Fed} → byte b (stateOf s) ≡ f → {at : ℕ} {before : List ℕ} {run : Run} {written : ℕ} {after : List ℕ}
-    → Closes f at before run written after → (line : List ℕ) → Takes s b at before (record { run = run; line = line; count = 0 }) written after
-takes-line e c line =
+    → Closes f at before run written after → Takes s b at before (record { run = run; line = s .line; count = 0 }) written after
+takes-line e c =
     record {
       stateIs = rw e (c .stateIs);
       sound = record { soundRun = c .sound; withinLine = omega arith };
       few = rw e (c .few);
       puts = rw e (c .puts);
+      lineStays = λ e. e;
     }

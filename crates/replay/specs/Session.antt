@@ -201,6 +201,7 @@ pub record Takes (s : Session) (b at : ℕ) (before : List ℕ) (session : Sessi
   pub sound : Sound session
   pub few : length (byte b (stateOf s) .printed) ≤ lineRoom
   pub puts : Puts (byte b (stateOf s) .printed) at before written after
+  pub lineStays : length (s .line) ≡ longestLine → length (session .line) ≡ longestLine
 
 -- How many bytes of a piece are taken where `room` bytes are lent: one more while the room left holds what any line prints, and all of them
 -- once the run has ended

@@ -1,5 +1,8 @@
 // The replay of a session file: from bytes to bytes, fed in pieces.
 ghost use mathlib.Core.Path.{_≡_};
+ghost use Prim.Native.Nat.{_≤_};
+ghost use Rattle.replay.specs.Text.{newline};
+ghost use Rattle.replay.specs.Replay.{longestLine};
 ghost use Rattle.replay.specs.Feeding.{first};
 ghost use Rattle.replay.specs.Session.{stateOf, Sound, SoundBy, Awaits, Takes, Feeds, Finishes, eventNext};
 use unit::TagUnit;
@@ -156,11 +159,18 @@ fn take(start: Session, piece: &[u8], out: &mut [u8]) -> Fed
         if out.len() - written < LINE_ROOM {
             break;
         }
-        let after = byte(session, piece[taken], out, written);
-        let next = after.session;
-        session = next;
-        written = after.written;
-        taken += 1;
+        let b = piece[taken];
+        if b != NEWLINE && session.count < LONGEST_LINE {
+            session.line[session.count] = b;
+            session.count += 1;
+            taken += 1;
+        } else {
+            let after = end_line(session, b, out, written);
+            let next = after.session;
+            session = next;
+            written = after.written;
+            taken += 1;
+        }
     }
     Fed {
         session,
@@ -169,28 +179,17 @@ fn take(start: Session, piece: &[u8], out: &mut [u8]) -> Fed
     }
 }
 
-// One byte. A line that has grown too long is malformed at once.
-fn byte(s: Session, b: u8, out: &mut [u8], at: usize) -> After
-    requires { ⌜ Awaits s at (now out) ⌝ }
+// The byte that ends a line: its newline, or the one that makes it too long, which is malformed at once.
+fn end_line(s: Session, b: u8, out: &mut [u8], at: usize) -> After
+    requires { ⌜ (Awaits s at (now out)) × ((b ≡ newline → ⊥) → longestLine ≤ s .count) ⌝ }
     ensures { λ r. ⌜ Takes s b at (now (out .entry)) (r .session) (r .written) (now (out .exit)) ⌝ }
 {
     let run = s.run;
-    let mut line = s.line;
+    let line = s.line;
     let count = s.count;
     if b == NEWLINE {
         let closed = closing::close(run, &line[..count], out, at);
         return opened(closed, line);
-    }
-    if count < LONGEST_LINE {
-        line[count] = b;
-        return After {
-            session: Session {
-                run,
-                line,
-                count: count + 1,
-            },
-            written: at,
-        };
     }
     opened(answers::breaks(run, out, at), line)
 }
