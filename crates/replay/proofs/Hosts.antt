@@ -3,17 +3,16 @@
 use Prim.Native.Nat.{ℕ}
 use mathlib.Core.Path.{_≡_, refl, sym, ap, _∙_}
 use mathlib.Core.Bool.{Bool, true, false, true≢false}
-use mathlib.Core.List.{List, [], _∷_, _++_, append-assoc, append-nil}
+use mathlib.Core.List.{List, [], _∷_, _++_, append-nil}
 use lib.Dec.{leb}
 use lib.ListN.{length, take, drop}
 use lib.Seq.{take-at}
-use Rattle.laws.proofs.Flags.{true-or-false}
 use Rattle.replay.specs.declared.Session.{Session}
 use Rattle.replay.specs.declared.Finished.{Finished}
 use Rattle.replay.specs.declared.Finished.the-variants as finished
 use Rattle.replay.specs.Replay.{replay}
-use Rattle.replay.specs.Feeding.{State, Fed, fed, fedTo, finish, first, inPieces, whole}
-use Rattle.replay.specs.Session.{stateOf, finishRoom, finishedAs, finishedBytes, Feeds, Finishes, Calls, none, more, AnyHost}
+use Rattle.replay.specs.Feeding.{fed, fedTo, finish, first, inPieces, whole}
+use Rattle.replay.specs.Session.{stateOf, finishRoom, Feeds, Finishes, Calls, none, more, AnyHost}
 use Rattle.replay.proofs.AnyPieces.{fed-append, any-pieces}
 
 -- what a call wrote is what feeding the bytes that it took prints

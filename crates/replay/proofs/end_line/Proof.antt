@@ -1,7 +1,7 @@
 -- `replay::end_line` meets its contract: a newline closes the line, another byte finds it too long. Assumes nothing.
 use Rattle.replay.proofs.Pieces.{byte-closes, byte-breaks, takes-line}
 use borrow.Author.Needs.{needs}
-use lib.ListN.{length, take}
+use lib.ListN.{length}
 use lib.Seq.{length-take-le}
 use mathlib.Core.Path.{_≡_, sym}
 use native.Mathlib.Omega.{arith}

@@ -1,7 +1,6 @@
 -- `replay::feed` meets its contract: a session that is not sound takes nothing, another takes the piece. Assumes nothing.
 use borrow.Author.Needs.{needs}
 use mathlib.Core.Path.{refl}
-use native.Mathlib.Omega.{arith}
 use Rattle.laws.proofs.Flags.{clash}
 use Rattle.replay.specs.Feeding.{fed}
 use Rattle.replay.proofs.feed.Statement.{statement}
