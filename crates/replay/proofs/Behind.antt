@@ -11,7 +11,7 @@ use Rattle.laws.specs.Bytes.{sameBytes}
 use Rattle.laws.proofs.Same.{same-equal}
 use Rattle.replay.specs.Reading.{after}
 use Rattle.replay.specs.Replay.{Line, breaks, given}
-use Rattle.replay.specs.Session.{valueLine}
+use Rattle.replay.specs.Inner.{valueLine}
 
 module _ (key line : List ℕ) {r : Bool} (found : r ≡ sameBytes (take (length key) line) key) where
   pub key-fits : r ≡ true → length key ≤ length line

@@ -24,7 +24,8 @@ use Rattle.replay.specs.declared.lines.Told.{Told}
 use Rattle.replay.specs.Event.{refusedText}
 use Rattle.replay.specs.Replay.{Expected, event, Line, follows, breaks, taken, judged, longestLine, mostLines}
 use Rattle.replay.specs.Feeding.{reading, ended, Fed, fedTo, closed, beginning}
-use Rattle.replay.specs.Session.{SoundRun, Closes, ClosesLine, stateWith, moved, expecting, expectedOf, lineOf, Means, Says, SaysNumber}
+use Rattle.replay.specs.Session.{SoundRun, stateWith, expecting, expectedOf}
+use Rattle.replay.specs.Inner.{Closes, ClosesLine, moved, lineOf, Means, Says, SaysNumber}
 use Rattle.replay.proofs.Placed.{puts-nothing}
 
 -- a line that is whole by itself

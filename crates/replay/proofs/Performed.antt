@@ -20,7 +20,8 @@ use Rattle.replay.specs.Text.{ascii, decimal, newline}
 use Rattle.replay.specs.Replay.{brings}
 use Rattle.replay.specs.Feeding.{closed}
 use Rattle.replay.specs.Written.{Puts}
-use Rattle.replay.specs.Session.{Ready, ClosesLine, Performs, moved, answeredText, settledText, passedText, repliesWithin, lineRoom}
+use Rattle.replay.specs.Session.{lineRoom}
+use Rattle.replay.specs.Inner.{Ready, ClosesLine, Performs, moved, answeredText, settledText, passedText, repliesWithin}
 use Rattle.replay.proofs.Texts.{length-bytes, length-refused, length-notes}
 use Rattle.replay.proofs.Decimal.{length-decimal}
 

@@ -16,7 +16,8 @@ use Rattle.replay.specs.Event.{malformedText}
 use Rattle.replay.specs.Replay.{judged, longestLine}
 use Rattle.replay.specs.Feeding.{State, reading, ended, Fed, fed, fedTo, byte, closed}
 use Rattle.replay.specs.Written.{Puts}
-use Rattle.replay.specs.Session.{SoundRun, Sound, stateOf, expectedOf, lineRoom, takes, GoesOn, Closes, Takes, Feeds}
+use Rattle.replay.specs.Session.{SoundRun, Sound, stateOf, expectedOf, lineRoom, takes, GoesOn, Feeds}
+use Rattle.replay.specs.Inner.{Closes, Takes}
 use Rattle.replay.proofs.Placed.{puts-then, puts-nothing, placed-first}
 use Rattle.replay.proofs.AnyPieces.{fed-append, fed-ended}
 

@@ -6,3 +6,4 @@ pub mod Feeding
 pub mod Written
 pub mod Values
 pub mod Session
+pub mod Inner

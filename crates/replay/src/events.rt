@@ -2,7 +2,8 @@
 ghost use Prim.Native.Nat.{_+_, _≤_};
 ghost use lib.ListN.{length};
 ghost use Rattle.replay.specs.Event as event;
-ghost use Rattle.replay.specs.Session.{askOf, settingOf, eventOf, Performs, lineRoom};
+ghost use Rattle.replay.specs.Session.{lineRoom};
+ghost use Rattle.replay.specs.Inner.{askOf, settingOf, eventOf, Performs};
 use crate::answers;
 use crate::answers::Performed;
 use unit::TagUnit;

@@ -4,7 +4,8 @@ ghost use Prim.Native.Nat.{_≤_};
 ghost use Rattle.replay.specs.Text.{newline};
 ghost use Rattle.replay.specs.Replay.{longestLine};
 ghost use Rattle.replay.specs.Feeding.{first};
-ghost use Rattle.replay.specs.Session.{stateOf, Sound, SoundBy, Awaits, Takes, Feeds, Finishes, eventNext};
+ghost use Rattle.replay.specs.Session.{stateOf, Sound, Feeds, Finishes};
+ghost use Rattle.replay.specs.Inner.{SoundBy, Awaits, Takes, eventNext};
 use unit::TagUnit;
 
 mod answers;

@@ -5,7 +5,7 @@ use mathlib.Core.List.{[]}
 use mathlib.Core.Path.{refl}
 use Rattle.replay.specs.Reading.{unsigned}
 use Rattle.replay.specs.Replay.{given}
-use Rattle.replay.specs.Session.{lineOf}
+use Rattle.replay.specs.Inner.{lineOf}
 use Rattle.replay.specs.Values.{numeralOf}
 use Rattle.replay.proofs.Behind.{key-fits, unkeyed-line, value-line}
 use Rattle.replay.proofs.lines.number.Statement.{statement}

@@ -6,7 +6,7 @@ use lib.ListN.{length, drop, length-take}
 use native.Mathlib.Omega.{arith}
 use Rattle.replay.specs.Reading.{bytes}
 use Rattle.replay.specs.Replay.{given}
-use Rattle.replay.specs.Session.{lineOf}
+use Rattle.replay.specs.Inner.{lineOf}
 use Rattle.replay.specs.Values.{octetsOf}
 use Rattle.replay.proofs.Behind.{key-fits, unkeyed-line, value-line}
 use Rattle.replay.proofs.lines.octets.Statement.{statement}
