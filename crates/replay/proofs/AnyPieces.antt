@@ -13,7 +13,7 @@ use Rattle.laws.specs.Answer.{Result, gives, refuses}
 use Rattle.unit.specs.declared.TagUnit.{TagUnit}
 use Rattle.unit.specs.Outcome.{Outcome}
 use Rattle.tag.specs.Calls.{newUnit}
-use Rattle.replay.specs.Text.{newline}
+use Rattle.notation.specs.Text.{newline}
 use Rattle.replay.specs.Event.{performed, printed, refusedText, malformedText}
 use Rattle.replay.specs.Replay.{Expected, Line, follows, brings, settles, breaks, judged, done, run, lines, File, mayEnd, longestLine, replay, begun, onto, event, power, components, volume, nonce, «data», tenths, on, level, keyBytes, id}
 use Rattle.replay.specs.Feeding.{State, reading, ended, Fed, fed, fedTo, byte, closed, finish, first, inPieces, whole, AnyPieces, beginning}

@@ -9,7 +9,7 @@ use lib.ListN.{length, take, drop, length-take, length-drop}
 use lib.Seq.{take-all}
 use Rattle.laws.specs.Bytes.{sameBytes}
 use Rattle.laws.proofs.Same.{same-equal}
-use Rattle.replay.specs.Reading.{after}
+use Rattle.notation.specs.Reading.{after}
 use Rattle.replay.specs.Replay.{Line, breaks, given}
 use Rattle.replay.specs.Inner.{valueLine}
 

@@ -26,7 +26,7 @@ use Rattle.replay.specs.Replay.{Expected, event, Line, follows, breaks, 
 use Rattle.replay.specs.Feeding.{reading, ended, Fed, fedTo, closed, beginning}
 use Rattle.replay.specs.Session.{SoundRun, stateWith, expecting, expectedOf}
 use Rattle.replay.specs.Inner.{Closes, ClosesLine, moved, lineOf, Means, Says, SaysNumber}
-use Rattle.replay.proofs.Placed.{puts-nothing}
+use Rattle.notation.proofs.Placed.{puts-nothing}
 
 -- a line that is whole by itself
 pub says-plain : {l : Line} {line : lines.Line} → Means l line → {t : Told} {into : List ℕ} → t ≡ record { line = line; number = 0; count = 0 }

@@ -16,10 +16,10 @@ use Rattle.replay.specs.declared.Finished.the-variants as finished
 use Rattle.replay.specs.Event.{malformedText}
 use Rattle.replay.specs.Replay.{mayEnd}
 use Rattle.replay.specs.Feeding.{finish}
-use Rattle.replay.specs.Written.{Puts}
+use Rattle.notation.specs.Written.{Puts}
 use Rattle.replay.specs.Session.{stateOf, expecting, finishRoom, Finishes}
 use Rattle.replay.specs.Inner.{eventNext}
-use Rattle.replay.proofs.Placed.{placed-first, puts-nothing}
+use Rattle.notation.proofs.Placed.{placed-first, puts-nothing}
 
 module _ (n : Next) (p : ℤ) (c : ℕ) (b : List ℕ) where
   may-end : eventNext n ≡ true → mayEnd (expecting n p c b) [] ≡ true

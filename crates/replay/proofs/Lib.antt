@@ -1,9 +1,4 @@
 pub mod AnyPieces
-pub mod Placed
-pub mod Hex
-pub mod Decimal
-pub mod Numerals
-pub mod Unhexed
 pub mod Behind
 pub mod Texts
 pub mod Performed

@@ -16,14 +16,14 @@ use Rattle.tag.specs.Passes.{Passes}
 use Rattle.replay.specs.declared.Run.{Run}
 use Rattle.replay.specs.declared.Next.the-variants as next
 use Rattle.replay.specs.Event.{Event, performed, printed, successText, bytesText, refusedText, notesText, elapsed}
-use Rattle.replay.specs.Text.{ascii, decimal, newline}
+use Rattle.notation.specs.Text.{ascii, decimal, newline}
 use Rattle.replay.specs.Replay.{brings}
 use Rattle.replay.specs.Feeding.{closed}
-use Rattle.replay.specs.Written.{Puts}
+use Rattle.notation.specs.Written.{Puts}
 use Rattle.replay.specs.Session.{lineRoom}
 use Rattle.replay.specs.Inner.{Ready, ClosesLine, Performs, moved, answeredText, settledText, passedText, repliesWithin}
 use Rattle.replay.proofs.Texts.{length-bytes, length-refused, length-notes}
-use Rattle.replay.proofs.Decimal.{length-decimal}
+use Rattle.notation.proofs.Decimal.{length-decimal}
 
 -- an answer stands at the front of the lent bytes
 taken-back : (n : ℕ) (a before after : List ℕ) → wrote n ≡ wrote (length a) → after ≡ lentAfter (gives a) before → take n after ≡ a

@@ -11,14 +11,14 @@ use lib.Seq.{take-suc, take-all, take-suc-set, length-take-le, drop-cons, drop-l
 use borrow.Author.Tests.{eq-eqb, ne-eqb, lt-ltb, le-ltb, le-leb, lt-leb}
 use Rattle.replay.specs.declared.Run.{Run}
 use Rattle.replay.specs.declared.Session.{Session}
-use Rattle.replay.specs.Text.{newline}
+use Rattle.notation.specs.Text.{newline}
 use Rattle.replay.specs.Event.{malformedText}
 use Rattle.replay.specs.Replay.{judged, longestLine}
 use Rattle.replay.specs.Feeding.{State, reading, ended, Fed, fed, fedTo, byte, closed}
-use Rattle.replay.specs.Written.{Puts}
+use Rattle.notation.specs.Written.{Puts}
 use Rattle.replay.specs.Session.{SoundRun, Sound, stateOf, expectedOf, lineRoom, takes, GoesOn, Feeds}
 use Rattle.replay.specs.Inner.{Closes, Takes}
-use Rattle.replay.proofs.Placed.{puts-then, puts-nothing, placed-first}
+use Rattle.notation.proofs.Placed.{puts-then, puts-nothing, placed-first}
 use Rattle.replay.proofs.AnyPieces.{fed-append, fed-ended}
 
 -- after the first bytes of a piece

@@ -4,10 +4,10 @@ use mathlib.Core.Path.{_≡_, refl}
 use mathlib.Core.List.{List, [], _∷_, _++_}
 use native.Mathlib.Omega.{arith}
 use lib.ListN.{length, length-append}
-use Rattle.replay.specs.Text.{decimal, decimalIn, hex, ascii, newline}
+use Rattle.notation.specs.Text.{decimal, decimalIn, hex, ascii, newline}
 use Rattle.replay.specs.Event.{malformedText, refusedText, bytesText, notesText, line}
-use Rattle.replay.proofs.Decimal.{length-decimal}
-use Rattle.replay.proofs.Hex.{length-hex}
+use Rattle.notation.proofs.Decimal.{length-decimal}
+use Rattle.notation.proofs.Hex.{length-hex}
 
 pub length-malformed : (n : ℕ) → length (malformedText n) ≤ 64
 unfolding malformedText

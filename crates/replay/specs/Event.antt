@@ -8,7 +8,7 @@ use Rattle.unit.specs.declared.TagUnit.{TagUnit}
 use Rattle.unit.specs.Numbers.{answerRoom}
 use Rattle.unit.specs.Outcome.{Outcome}
 use Rattle.tag.specs.Calls as tag
-use Rattle.replay.specs.Text.{ascii, newline, decimal, hex}
+use Rattle.notation.specs.Text.{ascii, newline, decimal, hex}
 
 pub data Event : Type 0 where
   read : (nonce : List ℕ) → Event

@@ -10,7 +10,7 @@ use Rattle.laws.specs.Answer.{Result, gives, refuses}
 use Rattle.unit.specs.declared.TagUnit.{TagUnit}
 use Rattle.unit.specs.Outcome.{Outcome}
 use Rattle.tag.specs.Calls.{newUnit, noUnit}
-use Rattle.replay.specs.Text.{newline}
+use Rattle.notation.specs.Text.{newline}
 use Rattle.replay.specs.Event.{performed, printed, refusedText, malformedText}
 use Rattle.replay.specs.Replay.{Expected, power, event, Line, follows, brings, settles, breaks, judged, longestLine, mayEnd, replay}
 

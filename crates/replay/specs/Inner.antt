@@ -23,10 +23,10 @@ use Rattle.replay.specs.declared.lines.Line as lines
 use Rattle.replay.specs.declared.lines.Line.the-variants as told
 use Rattle.replay.specs.declared.lines.Told.{Told}
 use Rattle.replay.specs.declared.Session.{Session}
-use Rattle.replay.specs.Written.{Puts}
-use Rattle.replay.specs.Text.{ascii, decimal}
+use Rattle.notation.specs.Written.{Puts}
+use Rattle.notation.specs.Text.{ascii, decimal}
 use Rattle.replay.specs.Event.{Event, read, write, elapsed, button, pairing, battery, key, identifier, frame, performed, printed, line, bytesText, notesText, refusedText}
-use Rattle.replay.specs.Reading.{after}
+use Rattle.notation.specs.Reading.{after}
 use Rattle.replay.specs.Replay.{Line, follows, brings, settles, breaks, given, power, components, volume, r, id, longestLine, mostLines}
 use Rattle.replay.specs.Feeding.{ended, Fed, byte, closed}
 use Rattle.replay.specs.Session.{Sound, SoundRun, expecting, lineRoom, stateOf, stateWith}

@@ -11,8 +11,8 @@ use Rattle.laws.specs.Bytes.{sameBytes}
 use Rattle.unit.specs.declared.TagUnit.{TagUnit}
 use Rattle.unit.specs.Outcome.{Outcome}
 use Rattle.tag.specs.Calls.{newUnit, noUnit}
-use Rattle.replay.specs.Text.{ascii, newline}
-use Rattle.replay.specs.Reading.{after, unsigned, signed, flag, bytes}
+use Rattle.notation.specs.Text.{ascii, newline}
+use Rattle.notation.specs.Reading.{after, unsigned, signed, flag, bytes}
 use Rattle.replay.specs.Event.{Event, read, write, elapsed, button, pairing, battery, key, identifier, frame, performed, refusedText, malformedText, printed}
 
 -- "at most 256 bytes a line and 999,999 lines"

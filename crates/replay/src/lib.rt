@@ -1,7 +1,7 @@
 // The replay of a session file: from bytes to bytes, fed in pieces.
 ghost use mathlib.Core.Path.{_≡_};
 ghost use Prim.Native.Nat.{_≤_};
-ghost use Rattle.replay.specs.Text.{newline};
+ghost use Rattle.notation.specs.Text.{newline};
 ghost use Rattle.replay.specs.Replay.{longestLine};
 ghost use Rattle.replay.specs.Feeding.{first};
 ghost use Rattle.replay.specs.Session.{stateOf, Sound, Feeds, Finishes};
@@ -12,8 +12,6 @@ mod answers;
 mod closing;
 mod events;
 mod lines;
-mod reading;
-mod text;
 
 // The longest line, without its newline.
 pub const LONGEST_LINE: usize = 256;

@@ -3,7 +3,7 @@ ghost use mathlib.Core.Path.{_≡_};
 ghost use Prim.Native.Nat.{_≤_};
 ghost use lib.ListN.{length};
 ghost use mathlib.Core.List.{[]};
-ghost use Rattle.replay.specs.Reading.{unsigned as unsignedOf, bytes as bytesOf};
+ghost use Rattle.notation.specs.Reading.{unsigned as unsignedOf, bytes as bytesOf};
 ghost use Rattle.replay.specs.Replay as replay;
 ghost use Rattle.replay.specs.Session.{expecting};
 ghost use Rattle.replay.specs.Inner.{Means, Says, SaysNumber, lineOf, valueLine};
@@ -11,11 +11,11 @@ use crate::Next;
 use crate::events::Ask;
 use crate::events::Event;
 use crate::events::Setting;
-use crate::reading;
-use crate::reading::Numeral;
-use crate::reading::Octets;
-use crate::reading::SignedNumeral;
-use crate::reading::Switch;
+use notation::reading;
+use notation::reading::Numeral;
+use notation::reading::Octets;
+use notation::reading::SignedNumeral;
+use notation::reading::Switch;
 
 // What a line means. Its number or its bytes stand beside it.
 pub enum Line {

@@ -1,7 +1,7 @@
 -- `replay::answers::bytes` meets its contract: no bytes print nothing. Assumes nothing.
 use borrow.Author.Needs.{needs}
 use native.Mathlib.Omega.{arith}
-use Rattle.replay.proofs.Placed.{puts-nothing}
+use Rattle.notation.proofs.Placed.{puts-nothing}
 use Rattle.replay.proofs.Texts.{bytes-none, bytes-some}
 use Rattle.replay.proofs.answers.bytes.Statement.{statement}
 use Rattle.replay.proofs.answers.bytes.Tie as tie

@@ -4,7 +4,7 @@ use lib.ListN.{take}
 use lib.Seq.{length-take-le}
 use mathlib.Core.Path.{sym}
 use native.Mathlib.Omega.{arith}
-use Rattle.replay.proofs.Placed.{puts-then}
+use Rattle.notation.proofs.Placed.{puts-then}
 use Rattle.replay.proofs.Texts.{length-notes}
 use Rattle.replay.proofs.answers.elapsed.Statement.{statement}
 use Rattle.replay.proofs.answers.elapsed.Tie as tie

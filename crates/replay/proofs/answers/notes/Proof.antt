@@ -3,9 +3,9 @@ use borrow.Author.Needs.{needs}
 use lib.ListN.{length-append}
 use mathlib.Core.List.{[], _∷_}
 use native.Mathlib.Omega.{arith}
-use Rattle.replay.specs.Text.{decimal, newline}
-use Rattle.replay.proofs.Decimal.{length-decimal}
-use Rattle.replay.proofs.Placed.{puts-then}
+use Rattle.notation.specs.Text.{decimal, newline}
+use Rattle.notation.proofs.Decimal.{length-decimal}
+use Rattle.notation.proofs.Placed.{puts-then}
 use Rattle.replay.proofs.Texts.{notes-none, notes-some}
 use Rattle.replay.proofs.answers.notes.Statement.{statement}
 use Rattle.replay.proofs.answers.notes.Tie as tie

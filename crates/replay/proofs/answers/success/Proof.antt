@@ -3,7 +3,7 @@ use native.Mathlib.Omega.{arith}
 use mathlib.Core.Path.{sym}
 use lib.Seq.{length-take-le}
 use borrow.Author.Needs.{needs}
-use Rattle.replay.proofs.Placed.{puts-then}
+use Rattle.notation.proofs.Placed.{puts-then}
 use Rattle.replay.proofs.answers.success.Statement.{statement}
 use Rattle.replay.proofs.answers.success.Tie as tie
 

@@ -12,7 +12,7 @@ use Rattle.unit.specs.Refusals.{number}
 use Rattle.tag.specs.Calls.{newUnit}
 use Rattle.replay.specs.Feeding.{closed}
 use Rattle.replay.proofs.ClosedLines.{closes-fed, begunBy, begins-by}
-use Rattle.replay.proofs.Placed.{puts-nothing}
+use Rattle.notation.proofs.Placed.{puts-nothing}
 use Rattle.replay.proofs.Texts.{length-refused}
 use Rattle.replay.proofs.closing.settle.Statement.{statement}
 use Rattle.replay.proofs.closing.settle.Tie as tie

@@ -4,7 +4,7 @@ use mathlib.Core.Path.{refl}
 use native.Mathlib.Omega.{arith}
 use Rattle.replay.specs.Event as event
 use Rattle.replay.specs.Event.{performed, successText}
-use Rattle.replay.specs.Text.{ascii}
+use Rattle.notation.specs.Text.{ascii}
 use Rattle.replay.proofs.Performed.{answers-within, performs-answered}
 use Rattle.replay.proofs.events.asked.Statement.{statement}
 use Rattle.replay.proofs.events.asked.Tie as tie

@@ -2,7 +2,7 @@
 use borrow.Author.Needs.{needs}
 use mathlib.Core.Path.{_∙_}
 use Rattle.replay.specs.Replay.{taken, named}
-use Rattle.replay.specs.Text.{ascii}
+use Rattle.notation.specs.Text.{ascii}
 use Rattle.replay.proofs.Behind.{key-fits, keyed-line, unkeyed-line}
 use Rattle.replay.proofs.lines.event.Statement.{statement}
 use Rattle.replay.proofs.lines.event.Tie as tie

@@ -3,10 +3,10 @@ use borrow.Author.Needs.{needs}
 use borrow.Author.Tests.{not-true, not-false}
 use mathlib.Core.List.{[]}
 use mathlib.Core.Path.{refl}
-use Rattle.replay.specs.Reading.{unsigned}
+use Rattle.notation.specs.Reading.{unsigned}
 use Rattle.replay.specs.Replay.{given}
 use Rattle.replay.specs.Inner.{lineOf}
-use Rattle.replay.specs.Values.{numeralOf}
+use Rattle.notation.specs.Values.{numeralOf}
 use Rattle.replay.proofs.Behind.{key-fits, unkeyed-line, value-line}
 use Rattle.replay.proofs.lines.number.Statement.{statement}
 use Rattle.replay.proofs.lines.number.Tie as tie

@@ -4,10 +4,10 @@ use borrow.Author.Needs.{needs}
 use borrow.Author.Tests.{not-true, not-false}
 use lib.ListN.{length, drop, length-take}
 use native.Mathlib.Omega.{arith}
-use Rattle.replay.specs.Reading.{bytes}
+use Rattle.notation.specs.Reading.{bytes}
 use Rattle.replay.specs.Replay.{given}
 use Rattle.replay.specs.Inner.{lineOf}
-use Rattle.replay.specs.Values.{octetsOf}
+use Rattle.notation.specs.Values.{octetsOf}
 use Rattle.replay.proofs.Behind.{key-fits, unkeyed-line, value-line}
 use Rattle.replay.proofs.lines.octets.Statement.{statement}
 use Rattle.replay.proofs.lines.octets.Tie as tie

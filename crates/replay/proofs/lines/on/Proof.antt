@@ -2,10 +2,10 @@
 use borrow.Author.Needs.{needs}
 use borrow.Author.Tests.{not-true, not-false}
 use Rattle.replay.specs.Event.{pairing}
-use Rattle.replay.specs.Reading.{flag}
+use Rattle.notation.specs.Reading.{flag}
 use Rattle.replay.specs.Replay.{taken, given, brings}
-use Rattle.replay.specs.Text.{ascii}
-use Rattle.replay.specs.Values.{switchOf}
+use Rattle.notation.specs.Text.{ascii}
+use Rattle.notation.specs.Values.{switchOf}
 use Rattle.replay.proofs.Behind.{key-fits, unkeyed-line, value-line}
 use Rattle.replay.proofs.lines.on.Statement.{statement}
 use Rattle.replay.proofs.lines.on.Tie as tie

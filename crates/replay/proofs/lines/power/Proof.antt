@@ -4,10 +4,10 @@ use borrow.Author.Tests.{not-true, not-false}
 use mathlib.Core.Path.{_≡_, ap, _∙_}
 use mir.Syntax.{w32}
 use mir.Val.{toZ, ofZ}
-use Rattle.replay.specs.Reading.{signed}
+use Rattle.notation.specs.Reading.{signed}
 use Rattle.replay.specs.Replay.{taken, given, follows, components}
-use Rattle.replay.specs.Text.{ascii}
-use Rattle.replay.specs.Values.{signedNumeralOf}
+use Rattle.notation.specs.Text.{ascii}
+use Rattle.notation.specs.Values.{signedNumeralOf}
 use Rattle.replay.proofs.Behind.{key-fits, unkeyed-line, value-line}
 use Rattle.replay.proofs.lines.power.Statement.{statement}
 use Rattle.replay.proofs.lines.power.Tie as tie

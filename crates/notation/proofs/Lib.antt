@@ -1,0 +1,5 @@
+pub mod Placed
+pub mod Hex
+pub mod Decimal
+pub mod Numerals
+pub mod Unhexed

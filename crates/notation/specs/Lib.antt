@@ -1,0 +1,4 @@
+pub mod Reading
+pub mod Text
+pub mod Values
+pub mod Written
