@@ -1,4 +1,4 @@
--- From a value behind its key to the line that it makes, and from there to what closing the line does. Assumes nothing.
+-- From a line that was read to what closing it does. Assumes nothing.
 use Prim.Native.Nat.{ℕ, suc, _-_, _≤_, _<_}
 use mathlib.Core.Path.{_≡_, refl, ap}
 use mathlib.Core.Bool.{false}
@@ -76,9 +76,23 @@ begins-by o {u} reply n p = rw (p .unitIs) (go (o .result) reply (p .endIs))
     go (refuses k) (Done m) h = let z : _≡_ {A = ℕ} 0 1 = cc in absurd (omega arith)
     go (refuses k) (Refused r) h = let same : number r ≡ k = cc in ap (λ (x : ℕ). fedTo ended (refusedText x)) same
 
+-- the run with what lines before were read as
+abbrev pub keeping : ℤ → ℕ → List ℕ → ℕ → Run → Run
+keeping p c bytes n run =
+    record {
+      ended = run .ended;
+      next = run .next;
+      number = run .number;
+      power = p;
+      components = c;
+      r = bytes;
+      filled = n;
+      unit = run .unit;
+    }
+
 -- the run moved on to another line
 pub closes-moved : (e : Expected) (next : Next) (base : Run) {after : Run} {at written : ℕ} {before : List ℕ} → after ≡ moved next (base .unit) base
-    → base .ended ≡ false → base .number ≤ 999999 → base .filled ≤ 128 → expectedOf (moved next (base .unit) base) ≡ e → written ≡ at
+    → base .ended ≡ false → base .number ≤ mostLines → base .filled ≤ 128 → expectedOf (moved next (base .unit) base) ≡ e → written ≡ at
     → Closes (closed (follows e) (base .number) (base .unit)) at before after written before
 closes-moved e next base {after} {at} {written} {before} is going few fits means w =
     closes-follow (base .number) (base .unit) e

@@ -54,7 +54,7 @@ pub struct Run {
 }
 
 // A run, and how many bytes it has written.
-pub struct Progress {
+struct Progress {
     pub run: Run,
     pub written: usize,
 }
@@ -67,7 +67,7 @@ pub struct Session {
 }
 
 // A session after one byte, and the next place of what it writes.
-pub struct After {
+struct After {
     pub session: Session,
     pub written: usize,
 }

@@ -10,8 +10,7 @@ use Rattle.replay.specs.Feeding.{closed}
 use Rattle.replay.specs.Replay as replay
 use Rattle.replay.specs.Session.{expecting}
 use Rattle.replay.specs.declared.Next.the-variants as next
-use Rattle.replay.specs.declared.Run.{Run}
-use Rattle.replay.proofs.ClosedLines.{closes-told, closes-moved}
+use Rattle.replay.proofs.ClosedLines.{keeping, closes-told, closes-moved}
 use Rattle.replay.proofs.closing.act.Statement.{statement}
 use Rattle.replay.proofs.closing.act.Tie as tie
 
@@ -67,17 +66,7 @@ returns : tie.Need-returns
 returns c =
     let run = c .before .before .before .before .before .args .run in
     let ready = c .before .before .before .before .before .pre .0 in
-    let base : Run =
-    record {
-      ended = run .ended;
-      next = run .next;
-      number = run .number;
-      power = toZ w32 (ofZ w32 (c .before .before .what .given .0 .0));
-      components = run .components;
-      r = run .r;
-      filled = run .filled;
-      unit = run .unit;
-    } in
+    let base = keeping (toZ w32 (ofZ w32 (c .before .before .what .given .0 .0))) (run .components) (run .r) (run .filled) run in
     closes-told run (c .before .before .before .before .before .args .number) (take (c .before .before .before .before .before .args .count) (c .before .before .before .before .before .args .t4)) (c .before .before .what .given .1)
     (closes-moved (replay.components (c .before .before .what .given .0 .0)) next.Components base (c .follow .ensures .0) (ready .going) (ready .counted) (ready .sound .withinR) (ap replay.components (search needs)) (c .follow .ensures .1))
 
@@ -85,17 +74,7 @@ returns-2 : tie.Need-returns-2
 returns-2 c =
     let run = c .before .before .before .before .args .run in
     let ready = c .before .before .before .before .pre .0 in
-    let base : Run =
-    record {
-      ended = run .ended;
-      next = run .next;
-      number = run .number;
-      power = run .power;
-      components = c .before .before .before .before .args .number;
-      r = run .r;
-      filled = run .filled;
-      unit = run .unit;
-    } in
+    let base = keeping (run .power) (c .before .before .before .before .args .number) (run .r) (run .filled) run in
     closes-told run (c .before .before .before .before .args .number) (take (c .before .before .before .before .args .count) (c .before .before .before .before .args .t4)) (c .before .enum-told .given .1)
     (closes-moved (replay.volume (run .power) (c .before .before .before .before .args .number)) next.Volume base (c .follow2 .ensures .0) (ready .going) (ready .counted) (ready .sound .withinR) refl (c .follow2 .ensures .1))
 
@@ -117,17 +96,7 @@ returns-5 : tie.Need-returns-5
 returns-5 c =
     let run = c .before .before .before .before .args .run in
     let ready = c .before .before .before .before .pre .0 in
-    let base : Run =
-    record {
-      ended = run .ended;
-      next = run .next;
-      number = run .number;
-      power = run .power;
-      components = run .components;
-      r = c .before .before .before .before .args .t4;
-      filled = c .before .before .before .before .args .count;
-      unit = run .unit;
-    } in
+    let base = keeping (run .power) (run .components) (c .before .before .before .before .args .t4) (c .before .before .before .before .args .count) run in
     closes-told run (c .before .before .before .before .args .number) (take (c .before .before .before .before .args .count) (c .before .before .before .before .args .t4)) (c .before .enum-told3 .given .1)
     (closes-moved (replay.id (take (c .before .before .before .before .args .count) (c .before .before .before .before .args .t4))) next.Id base (c .follow4 .ensures .0) (ready .going) (ready .counted) (c .before .before .before .before .pre .1) refl (c .follow4 .ensures .1))
 
