@@ -66,7 +66,7 @@ pub struct Session {
     pub count: usize,
 }
 
-// A session after one byte, and the next place of what it writes.
+// A session after a byte that ends a line, and the next place of what it writes.
 struct After {
     pub session: Session,
     pub written: usize,
