@@ -1,4 +1,4 @@
--- A write as a whole: the handler that its ID chooses, and its judgement, from what the code tests. Assumes nothing.
+-- A write as a whole: an ID that has no handler, and the judgement, from what the code tests. Assumes nothing.
 use Prim.Native.Nat.{ℕ, _-_, _≤_}
 use mathlib.Core.Path.{_≡_, sym, ap, _∙_}
 use mathlib.Core.Bool.{Bool, true, false, _||_}
@@ -20,51 +20,13 @@ use Rattle.unit.specs.declared.Reply.{Reply}
 use Rattle.unit.specs.declared.Refusal.{Refusal}
 use Rattle.unit.proofs.Kept.{spent-kept}
 use Rattle.requests.specs.Judgement.{rejects, notAuthenticated, invalidValue}
-use Rattle.requests.specs.Provisioning.{readParameters, readState, setKey, clearKey, recoverKey}
-use Rattle.requests.specs.Ringing.{ring, readSound}
-use Rattle.requests.specs.Protecting.{protect, unprotect}
-use Rattle.requests.specs.Judges.{Ready, Judges}
-use Rattle.requests.specs.Write.{byId, keyThere, judged, written}
-use Rattle.requests.proofs.Settled.{refusal, judged-as}
+use Rattle.requests.specs.declared.Verdict.{Verdict}
+use Rattle.requests.specs.Judges.{Ready, Judges, judgementOf}
+use Rattle.requests.specs.Write.{byId, keyThere, judged, settled, written}
+use Rattle.requests.proofs.Settled.{refusal}
 use Rattle.requests.proofs.Shaped.{sizes-legal, length-is, head-inside}
 
 module _ (u : TagUnit) (q : Request) where
-  pub chosen-parameters : q .id ≡ 0x00 → byId u q ≡ readParameters u q
-  unfolding byId
-  chosen-parameters e = rw e
-
-  pub chosen-state : q .id ≡ 0x01 → byId u q ≡ readState u q
-  unfolding byId
-  chosen-state e = rw e
-
-  pub chosen-set : q .id ≡ 0x02 → byId u q ≡ setKey u q
-  unfolding byId
-  chosen-set e = rw e
-
-  pub chosen-clear : q .id ≡ 0x03 → byId u q ≡ clearKey u q
-  unfolding byId
-  chosen-clear e = rw e
-
-  pub chosen-recover : q .id ≡ 0x04 → byId u q ≡ recoverKey u q
-  unfolding byId
-  chosen-recover e = rw e
-
-  pub chosen-ring : q .id ≡ 0x05 → byId u q ≡ ring u q
-  unfolding byId
-  chosen-ring e = rw e
-
-  pub chosen-sound : q .id ≡ 0x06 → byId u q ≡ readSound u q
-  unfolding byId
-  chosen-sound e = rw e
-
-  pub chosen-protect : q .id ≡ 0x07 → byId u q ≡ protect u q
-  unfolding byId
-  chosen-protect e = rw e
-
-  pub chosen-unprotect : q .id ≡ 0x08 → byId u q ≡ unprotect u q
-  unfolding byId
-  chosen-unprotect e = rw e
-
   pub chosen-none : (q .id ≡ 0 → ⊥) → (q .id ≡ 1 → ⊥) → (q .id ≡ 2 → ⊥) → (q .id ≡ 3 → ⊥) → (q .id ≡ 4 → ⊥) → (q .id ≡ 5 → ⊥) → (q .id ≡ 6 → ⊥)
       → (q .id ≡ 7 → ⊥) → (q .id ≡ 8 → ⊥) → byId u q ≡ invalidValue
   unfolding byId
@@ -98,6 +60,9 @@ module _ (u : TagUnit) (w : List ℕ) where
     unfolding written
     write-refused r x lent ends is = refusal (spent u) (judged u w) r x lent (ends .0 ∙ changed, ends .1) is
 
+    pub after-formed : wellFormed u ≡ true → wellFormed after ≡ true
+    after-formed formed = rw changed (spent-kept u formed)
+
     module _ {h : Head} (head : request h (drop 10 w) ≡ parsed w) where
       pub key-there : {there : Bool} → there ≡ ltb (h .id) 3 || u .identity .held → keyThere u (parsed w) ≡ there
       key-there e = sym (e ∙ ap (λ (q : Request). ltb (q .id) 3 || u .identity .held) head)
@@ -105,23 +70,24 @@ module _ (u : TagUnit) (w : List ℕ) where
       tail-is : take (length w - 10) (drop 10 w) ≡ drop 10 w
       tail-is = take-all (length w - 10) (drop 10 w) (omega (arith, length-drop 10 w))
 
-      pub write-ready : {lent : List ℕ} → wellFormed u ≡ true → 42 ≤ length lent → shapeLegal w ≡ true
-          → Ready after (h .size) (take (length w - 10) (drop 10 w)) lent × (sizeLegal (h .id) (h .size) ≡ true)
+      pub write-ready : wellFormed u ≡ true → shapeLegal w ≡ true
+          → Ready after (h .size) (take (length w - 10) (drop 10 w)) × (sizeLegal (h .id) (h .size) ≡ true)
       unfolding parsed
-      write-ready formed room shaped =
+      write-ready formed shaped =
           let size = ap (λ (q : Request). q .size) head in
           let id = ap (λ (q : Request). q .id) head in (
             record {
-              formed = rw changed (spent-kept u formed);
+              formed = after-formed formed;
               sized = rw tail-is (omega (arith, size, length-drop 10 w, length-is w shaped, head-inside w shaped));
-              room = room;
             },
             rw (id, size) (sizes-legal w shaped),
           )
 
-      pub write-judged : (r : Step) {before last : List ℕ} → judged u w ≡ byId (spent u) (parsed w)
-          → Judges after (byId after (request h (take (length w - 10) (drop 10 w)))) r before last
+      pub write-judged : (r : Step) {v : Verdict} {before last : List ℕ} → judged u w ≡ byId (spent u) (parsed w)
+          → Judges after (h .id) (byId after (request h (take (length w - 10) (drop 10 w)))) v
+          → Answers (settled after (judgementOf after (h .id) v (v .grant))) (r .unit) (r .reply) before last
           → Answers (written u w) (r .unit) (r .reply) before last
       unfolding written
-      write-judged r is p =
-          judged-as (spent u) (judged u w) r (is ∙ ap (λ (q : Request). byId (spent u) q) (sym head)) (rw (changed, tail-is) at p)
+      write-judged r is p ends =
+          let e = is ∙ ap (λ (q : Request). byId (spent u) q) (sym head) in
+          rw (e, ← changed) (rw (← p .judgedSo, tail-is) at ends)

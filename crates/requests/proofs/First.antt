@@ -13,8 +13,9 @@ use Rattle.laws.proofs.Flags.{true-or-false}
 use Rattle.unit.proofs.Keys.{held, bytesAt}
 use Rattle.unit.specs.WellFormed.{keyBytes, heldKeys}
 use Rattle.unit.specs.declared.AccountKey.{AccountKey}
-use Rattle.unit.specs.declared.Accounts.{Accounts}
-use Rattle.requests.specs.Judgement.{firstFrom}
+use Rattle.unit.specs.declared.TagUnit.{TagUnit}
+use Rattle.wire.specs.Shape.{Request}
+use Rattle.requests.specs.Judgement.{firstFrom, firstTagged, lastNonce, tagged}
 use Rattle.requests.specs.declared.Found.{Found}
 
 -- as the code reads it, and as the definition does
@@ -45,9 +46,10 @@ first-below p i (k ∷ ks) j e = go (true-or-false (p k)) (first-below p (suc i)
     go (inl met) rest = let at : Found.At i ≡ Found.At j = rw met at e in let same : i ≡ j = cc in omega arith
     go (inr unmet) rest = let later : j < suc i + length ks = rest (rw unmet at e) in omega arith
 
-pub found-below : {found : Found} (p : List ℕ → Bool) (a : Accounts) (place : ℕ) → found ≡ firstFrom p 0 (heldKeys a) → found ≡ Found.At place
-    → place < a .count
-unfolding heldKeys
-found-below p a place e f =
-    let inside : place < 0 + length (heldKeys a) = first-below p 0 (heldKeys a) place (sym e ∙ f) in
+pub found-below : {found : Found} (u : TagUnit) (q : Request) {place : ℕ} → found ≡ firstTagged u q → found ≡ Found.At place
+    → place < u .accounts .count
+unfolding firstTagged heldKeys
+found-below u q {place} e f =
+    let a = u .accounts in
+    let inside : place < 0 + length (heldKeys a) = first-below (λ k. tagged k (lastNonce u) q) 0 (heldKeys a) place (sym e ∙ f) in
     omega (arith, length-take (a .count) (keyBytes (a .keys)), min-le-left (a .count) (length (keyBytes (a .keys))))

@@ -1,7 +1,7 @@
 -- The judgements of 0x00 to 0x04, from what their handlers test. Assumes nothing.
-use Prim.Native.Nat.{ℕ, _-_, _/_, _%_, _^_, _<_}
-use mathlib.Core.Path.{_≡_, sym, ap, _∙_}
-use mathlib.Core.Bool.{Bool, true, false, not, _||_}
+use Prim.Native.Nat.{ℕ, _-_, _/_, _%_, _^_, _≤_, _<_}
+use mathlib.Core.Path.{_≡_, refl, ap, _∙_}
+use mathlib.Core.Bool.{Bool, true, false, cond, not, _&&_, _||_}
 use mathlib.Core.List.{List, [], _∷_, _++_}
 use native.Mathlib.Omega.{arith}
 use lib.Dec.{ltb}
@@ -10,17 +10,16 @@ use lib.Seq.{take-all}
 use borrow.Author.Tests.{eq-eqb, ne-eqb}
 use Rattle.laws.specs.Bytes.{bigEndian}
 use Rattle.primitives.specs.Standards.{AES128}
-use Rattle.wire.specs.Signing.{recoveryKey, signed}
+use Rattle.wire.specs.Signing.{recoveryKey}
 use Rattle.wire.specs.Shape.{Request}
 use Rattle.wire.specs.KeyBlocks.{decryptedKey, encryptedKey}
-use Rattle.wire.specs.Wrote.{Wrote}
 use Rattle.unit.specs.Change.{withOwner}
 use Rattle.unit.specs.Standing.{stands, shownIdentifier}
-use Rattle.unit.specs.WellFormed.{heldKeys}
 use Rattle.unit.specs.declared.TagUnit.{TagUnit}
 use Rattle.unit.specs.declared.Owner.{Owner}
 use Rattle.requests.specs.declared.Found.{Found}
-use Rattle.requests.specs.Judgement.{accepts, notAuthenticated, noConsent, lastNonce, tagged, proves, answered, firstFrom, firstTagged, keyAt}
+use Rattle.requests.specs.Judgement.{Judgement, accepts, notAuthenticated, noConsent, unless, lastNonce, tagged, proves, answered, firstTagged, keyAt, ownerPlace, withKey}
+use Rattle.requests.specs.Judges.{ownerIf}
 use Rattle.requests.specs.Provisioning.{wireByte, curve, parameters, readParameters, ownerFor, owns, stateBits, readState, mayReplace, rekeyed, setKey, cleared, clearKey, recoverKey}
 
 -- four bytes of a number, the highest first
@@ -32,20 +31,23 @@ four-bytes n rest h =
     let next : n / 256 / 256 ≡ n / 65536 = omega arith in
     rw (top, next)
 
--- What 0x01 shows after the state: the identifier that stands, or nothing
-module _ (u : TagUnit) {standing : Bool} (is : standing ≡ stands u) where
-  pub shown-id : {bits : ℕ} {payload : List ℕ} → standing ≡ true → payload ≡ bits ∷ u .identifier .id → payload ≡ bits ∷ shownIdentifier u
-  unfolding shownIdentifier
-  shown-id met e = rw (sym is ∙ met) e
+-- The data of 0x01: the state, and the identifier that stands, or nothing
+module _ (u : TagUnit) {size : ℕ} (is : size ≡ cond (stands u) 21 1) where
+  pub state-fits : size ≤ 32
+  state-fits = rw is (go (stands u))
+    where
+      go : (b : Bool) → cond b 21 1 ≤ 32
+      go true = omega arith
+      go false = omega arith
 
-  pub shown-none : (bits : ℕ) → standing ≡ false → bits ∷ [] ≡ bits ∷ shownIdentifier u
+  pub state-shown : {bits : ℕ} (payload : List ℕ) → (take 21 payload ≡ bits ∷ u .identifier .id) × (take 1 payload ≡ bits ∷ [])
+      → take size payload ≡ bits ∷ shownIdentifier u
   unfolding shownIdentifier
-  shown-none bits unmet = rw (sym is ∙ unmet)
-
--- an answer with other data that is the same
-pub signed-as : (key nonce : List ℕ) (id : ℕ) {one other before after : List ℕ} {count : ℕ} → one ≡ other
-    → Wrote (signed key nonce id one) count before after → Wrote (signed key nonce id other) count before after
-signed-as key nonce id e w = rw e at w
+  state-shown {bits} payload e = rw is (go (stands u))
+    where
+      go : (b : Bool) → take (cond b 21 1) payload ≡ bits ∷ cond b (u .identifier .id) []
+      go true = e .0
+      go false = e .1
 
 -- Whether 0x02 may set the key
 module _ (u : TagUnit) (q : Request) where
@@ -66,12 +68,39 @@ module _ (u : TagUnit) (q : Request) where
   unfolding mayReplace
   replace-first e = rw (ne-eqb (q .size) 48 e)
 
+-- The owner's place where a test of it holds: judging with it, and what it is
+owner-judged : (ok : ℕ → Bool) (f : ℕ → Judgement) (o : Owner)
+    → withKey (ownerPlace o) (λ p. unless (ok p) notAuthenticated (f p)) ≡ withKey (ownerIf ok o) f
+owner-judged ok f Owner.Nobody = refl
+owner-judged ok f (Owner.Place p) = go (ok p)
+  where
+    go : (b : Bool) → unless b notAuthenticated (f p) ≡ withKey (cond b (Found.At p) Found.Nowhere) f
+    go true = refl
+    go false = refl
+
+owner-found : {found : Found} {place : ℕ} (ok : ℕ → Bool) (o : Owner) → found ≡ ownerIf ok o → found ≡ Found.At place
+    → o ≡ Owner.Place place
+owner-found ok Owner.Nobody e at = cc
+owner-found {found} {place} ok (Owner.Place p) e at = go (ok p) e
+  where
+    go : (b : Bool) → found ≡ cond b (Found.At p) Found.Nowhere → Owner.Place p ≡ Owner.Place place
+    go true e = cc
+    go false e = cc
+
+module _ (ok : ℕ → Bool) (allowed : Bool) {o : Owner} where
+  pub owner-nobody : o ≡ Owner.Nobody → Found.Nowhere ≡ ownerIf (λ p. ok p && allowed) o
+  owner-nobody e = rw e
+
+  module _ {place : ℕ} (e : o ≡ Owner.Place place) where
+    pub owner-signed : {found : Found} → ok place ≡ true → found ≡ cond allowed (Found.At place) Found.Nowhere
+        → found ≡ ownerIf (λ p. ok p && allowed) o
+    owner-signed met f = rw (e, met) f
+
+    pub owner-unsigned : ok place ≡ false → Found.Nowhere ≡ ownerIf (λ p. ok p && allowed) o
+    owner-unsigned unmet = rw (e, unmet)
+
 module _ (u : TagUnit) (q : Request) where
   -- 0x00 and 0x01: any account key
-  pub first-is : {found : Found} → found ≡ firstFrom (λ k. tagged k (lastNonce u) q) 0 (heldKeys (u .accounts)) → firstTagged u q ≡ found
-  unfolding firstTagged
-  first-is e = sym e
-
   pub parameters-nowhere : firstTagged u q ≡ Found.Nowhere → readParameters u q ≡ notAuthenticated
   unfolding readParameters
   parameters-nowhere e = rw e
@@ -80,75 +109,75 @@ module _ (u : TagUnit) (q : Request) where
   unfolding readState
   state-nowhere e = rw e
 
-  module _ {place : ℕ} {key : List ℕ} (found : firstTagged u q ≡ Found.At place) (is : key ≡ keyAt u place) where
-    pub parameters-read : {plain block : List ℕ}
+  module _ {place : ℕ} (found : firstTagged u q ≡ Found.At place) where
+    pub parameters-read : {key plain block : List ℕ} → key ≡ keyAt u place
         → plain
         ≡ wireByte (u .settings .power)
         ∷ (bigEndian 4 (u .clock .seconds) ++ (curve ∷ (u .settings .components ∷ (u .settings .selectable ∷ replicate 8 0))))
-        → block ≡ AES128 key plain → readParameters u q ≡ accepts u (answered key u q block)
+        → block ≡ AES128 key plain → readParameters u q ≡ accepts u (answered (keyAt u place) u q block)
     unfolding readParameters parameters
-    parameters-read p b = rw (b, p, is, found)
+    parameters-read is p b = rw (b, p, is, found)
 
     pub state-read : {owner : Owner} {bits : ℕ} {next : TagUnit} → owner ≡ ownerFor (u .owner) place
         → bits ≡ stateBits (u .identity .held) (owns owner place) → next ≡ withOwner owner u
-        → readState u q ≡ accepts next (answered key u q (bits ∷ shownIdentifier u))
+        → readState u q ≡ accepts next (answered (keyAt u place) u q (bits ∷ shownIdentifier u))
     unfolding readState
-    state-read o b n = rw (n, b, o, is, found)
+    state-read o b n = rw (n, b, o, found)
 
-  -- 0x02 to 0x04: only with an owner
-  module _ (none : u .owner ≡ Owner.Nobody) where
-    pub set-unowned : setKey u q ≡ notAuthenticated
+  -- 0x02 and 0x03: the owner's key signed, and the request is allowed besides
+  module _ (allowed : Bool) {found : Found} (is : found ≡ ownerIf (λ p. tagged (keyAt u p) (lastNonce u) q && allowed) (u .owner)) where
+    pub tagged-owner : {place : ℕ} → found ≡ Found.At place → u .owner ≡ Owner.Place place
+    tagged-owner at = owner-found (λ p. tagged (keyAt u p) (lastNonce u) q && allowed) (u .owner) is at
+
+    set-judged : allowed ≡ mayReplace u q
+        → setKey u q
+        ≡ withKey found
+        (λ p. accepts (rekeyed (decryptedKey (keyAt u p) (q .additional)) u) (answered (keyAt u p) u q []))
     unfolding setKey
-    set-unowned = rw none
+    set-judged may = rw (is, may) (owner-judged _ _ (u .owner))
 
-    pub clear-unowned : clearKey u q ≡ notAuthenticated
+    pub set-denied : allowed ≡ mayReplace u q → found ≡ Found.Nowhere → setKey u q ≡ notAuthenticated
+    set-denied may none = set-judged may ∙ rw none
+
+    pub set-done : {place : ℕ} {key identity : List ℕ} {next : TagUnit} → allowed ≡ mayReplace u q → found ≡ Found.At place
+        → key ≡ keyAt u place → identity ≡ decryptedKey key (q .additional) → next ≡ rekeyed identity u
+        → setKey u q ≡ accepts next (answered (keyAt u place) u q [])
+    set-done may at k i n = set-judged may ∙ rw (at, n, i, k)
+
+    clear-judged : allowed ≡ proves u (q .additional)
+        → clearKey u q ≡ withKey found (λ p. accepts (cleared u) (answered (keyAt u p) u q []))
     unfolding clearKey
-    clear-unowned = rw none
+    clear-judged proof = rw (is, proof) (owner-judged _ _ (u .owner))
 
-    pub recover-unowned : recoverKey u q ≡ notAuthenticated
+    pub clear-denied : allowed ≡ proves u (q .additional) → found ≡ Found.Nowhere → clearKey u q ≡ notAuthenticated
+    clear-denied proof none = clear-judged proof ∙ rw none
+
+    pub clear-done : {place : ℕ} {next : TagUnit} → allowed ≡ proves u (q .additional) → found ≡ Found.At place → next ≡ cleared u
+        → clearKey u q ≡ accepts next (answered (keyAt u place) u q [])
+    clear-done proof at n = clear-judged proof ∙ rw (at, n)
+
+  -- 0x04: the recovery key signed, and there is an owner
+  module _ (signed : Bool) {found : Found} (is : found ≡ ownerIf (λ p. signed) (u .owner))
+      (tag : signed ≡ tagged (recoveryKey (u .identity .bytes)) (lastNonce u) q) where
+    pub recovery-owner : {place : ℕ} → found ≡ Found.At place → u .owner ≡ Owner.Place place
+    recovery-owner at = owner-found (λ p. signed) (u .owner) is at
+
+    recover-judged : recoverKey u q
+        ≡ withKey found
+        (λ p.
+        unless (ltb 0 (u .consent) || u .pairing) noConsent
+        (accepts u (answered (recoveryKey (u .identity .bytes)) u q (encryptedKey (keyAt u p) (u .identity .bytes)))))
     unfolding recoverKey
-    recover-unowned = rw none
+    recover-judged = rw (is, tag) (owner-judged _ _ (u .owner))
 
-  module _ {place : ℕ} (owned : u .owner ≡ Owner.Place place) where
-    module _ {key : List ℕ} (is : key ≡ keyAt u place) where
-      pub set-untagged : tagged key (lastNonce u) q ≡ false → setKey u q ≡ notAuthenticated
-      unfolding setKey
-      set-untagged unmet = rw (owned, ← is, unmet)
+    pub recover-denied : found ≡ Found.Nowhere → recoverKey u q ≡ notAuthenticated
+    recover-denied none = recover-judged ∙ rw none
 
-      pub clear-untagged : tagged key (lastNonce u) q ≡ false → clearKey u q ≡ notAuthenticated
-      unfolding clearKey
-      clear-untagged unmet = rw (owned, ← is, unmet)
+    module _ {place : ℕ} (at : found ≡ Found.At place) where
+      pub recover-refused : ltb 0 (u .consent) || u .pairing ≡ false → recoverKey u q ≡ noConsent
+      recover-refused unmet = recover-judged ∙ rw (at, unmet)
 
-      module _ (met : tagged key (lastNonce u) q ≡ true) where
-        pub set-kept : mayReplace u q ≡ false → setKey u q ≡ notAuthenticated
-        unfolding setKey
-        set-kept unmet = rw (unmet, owned, ← is, met)
-
-        pub set-done : {identity : List ℕ} {next : TagUnit} → mayReplace u q ≡ true → identity ≡ decryptedKey key (q .additional)
-            → next ≡ rekeyed identity u → setKey u q ≡ accepts next (answered key u q [])
-        unfolding setKey
-        set-done may i n = rw (n, i, may, owned, ← is, met)
-
-        pub clear-unproved : proves u (q .additional) ≡ false → clearKey u q ≡ notAuthenticated
-        unfolding clearKey
-        clear-unproved unmet = rw (owned, ← is, met, unmet)
-
-        pub clear-done : {next : TagUnit} → proves u (q .additional) ≡ true → next ≡ cleared u
-            → clearKey u q ≡ accepts next (answered key u q [])
-        unfolding clearKey
-        clear-done proof n = rw (n, owned, ← is, met, proof)
-
-    module _ {recovery : List ℕ} (derived : recovery ≡ recoveryKey (u .identity .bytes)) where
-      pub recover-untagged : tagged recovery (lastNonce u) q ≡ false → recoverKey u q ≡ notAuthenticated
-      unfolding recoverKey
-      recover-untagged unmet = rw (owned, ← derived, unmet)
-
-      module _ (met : tagged recovery (lastNonce u) q ≡ true) where
-        pub recover-refused : ltb 0 (u .consent) || u .pairing ≡ false → recoverKey u q ≡ noConsent
-        unfolding recoverKey
-        recover-refused unmet = rw (owned, ← derived, met, unmet)
-
-        pub recover-done : {key blocks : List ℕ} → ltb 0 (u .consent) || u .pairing ≡ true → key ≡ keyAt u place
-            → blocks ≡ encryptedKey key (u .identity .bytes) → recoverKey u q ≡ accepts u (answered recovery u q blocks)
-        unfolding recoverKey
-        recover-done consent is b = rw (b, is, owned, ← derived, met, consent)
+      pub recover-done : {key blocks : List ℕ} → ltb 0 (u .consent) || u .pairing ≡ true → key ≡ keyAt u place
+          → blocks ≡ encryptedKey key (u .identity .bytes)
+          → recoverKey u q ≡ accepts u (answered (recoveryKey (u .identity .bytes)) u q blocks)
+      recover-done consent k b = recover-judged ∙ rw (at, consent, b, k)

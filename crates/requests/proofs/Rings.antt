@@ -2,16 +2,16 @@
 use Prim.Native.Nat.{ℕ, _+_, _*_, _≤_, _<_}
 use mathlib.Core.Path.{_≡_, sym, ap, _∙_}
 use mathlib.Core.Bool.{Bool, true, false, _&&_, _||_}
-use mathlib.Core.List.{List}
+use mathlib.Core.List.{List, _∷_}
 use native.Mathlib.Nat.{zero-add}
 use native.Mathlib.Omega.{arith}
 use lib.Dec.{eqb, leb}
 use lib.ListN.{length, getD}
 use lib.Seq.{drop-cons}
 use borrow.Author.Tests.{eq-eqb, ne-eqb, le-leb, lt-leb}
-use Rattle.laws.specs.Bytes.{number, numberAfter}
+use Rattle.laws.specs.Bytes.{bigEndian, number, numberAfter}
 use Rattle.laws.proofs.Flags.{and-fails-left}
-use Rattle.wire.specs.Signing.{ringKey, ringNotice, stopNotice, started, byRequest}
+use Rattle.wire.specs.Signing.{ringKey, signed, ringId, ringNotice, started, byRequest}
 use Rattle.wire.specs.Shape.{Request}
 use Rattle.unit.specs.Change.{withSound, silenced}
 use Rattle.unit.specs.Numbers.{ringable, highestVolume, longestRing}
@@ -73,13 +73,15 @@ module _ (s : Settings) (a : List ℕ) {mask : ℕ} (is : mask ≡ ringMask s a)
 module _ (u : TagUnit) where
   module _ {mask : ℕ} (volume left : ℕ) {next : TagUnit} where
     pub rung-stop : mask ≡ 0 → next ≡ silenced u
-        → rung u mask volume left ≡ accepts next (stopNotice (u .identity .bytes) (lastNonce u) byRequest)
-    unfolding rung
+        → rung u mask volume left
+        ≡ accepts next (signed (ringKey (u .identity .bytes)) (lastNonce u) ringId (byRequest ∷ 0 ∷ bigEndian 2 0))
+    unfolding rung ringNotice
     rung-stop none changed = rw (changed, eq-eqb mask 0 none)
 
     pub rung-ring : (mask ≡ 0 → ⊥) → next ≡ withSound (Sound.Ringing mask volume left) (lastNonce u) u
-        → rung u mask volume left ≡ accepts next (ringNotice (u .identity .bytes) (lastNonce u) started mask left)
-    unfolding rung
+        → rung u mask volume left
+        ≡ accepts next (signed (ringKey (u .identity .bytes)) (lastNonce u) ringId (started ∷ mask ∷ bigEndian 2 left))
+    unfolding rung ringNotice
     rung-ring some changed = rw (changed, ne-eqb mask 0 some)
 
   module _ (q : Request) where
@@ -97,12 +99,11 @@ module _ (u : TagUnit) where
       unfolding ring
       ring-rung legal m v l = rw (m, v, l, met, legal)
 
-    module _ {key : List ℕ} (derived : key ≡ ringKey (u .identity .bytes)) where
-      pub sound-untagged : tagged key (lastNonce u) q ≡ false → readSound u q ≡ notAuthenticated
-      unfolding readSound
-      sound-untagged unmet = rw (← derived, unmet)
+    pub sound-untagged : tagged (ringKey (u .identity .bytes)) (lastNonce u) q ≡ false → readSound u q ≡ notAuthenticated
+    unfolding readSound
+    sound-untagged unmet = rw unmet
 
-      pub sound-read : {payload : List ℕ} → tagged key (lastNonce u) q ≡ true → payload ≡ soundState (u .sound)
-          → readSound u q ≡ accepts u (answered key u q payload)
-      unfolding readSound
-      sound-read met is = rw (is, ← derived, met)
+    pub sound-read : tagged (ringKey (u .identity .bytes)) (lastNonce u) q ≡ true
+        → readSound u q ≡ accepts u (answered (ringKey (u .identity .bytes)) u q (soundState (u .sound)))
+    unfolding readSound
+    sound-read met = rw met

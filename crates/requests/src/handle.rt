@@ -9,6 +9,8 @@ ghost use Rattle.unit.specs.Outcome.{Answers};
 ghost use Rattle.wire.specs.Shape.{request, parsed, sizeLegal, shapeLegal};
 ghost use Rattle.requests.specs.Judges.{Ready, Judges};
 ghost use Rattle.requests.specs.Write.{byId, written};
+use crate::Verdict;
+use crate::grants;
 use crate::protecting;
 use crate::provisioning;
 use crate::ringing;
@@ -21,22 +23,22 @@ use wire::Head;
 use wire::shape;
 
 // Hands the request, with the write's tail as its additional data, to the handler of its ID.
-fn by_id(u: TagUnit, h: Head, additional: &[u8], answer: &mut [u8]) -> Step
-    requires { ⌜ Ready u (h .size) (now additional) (now answer) × (sizeLegal (h .id) (h .size) ≡ true) ⌝ }
-    ensures { λ r. ⌜ Judges u (byId u (request h (now (additional .entry)))) r (now (answer .entry)) (now (answer .exit)) ⌝ }
+fn by_id(u: TagUnit, h: Head, additional: &[u8]) -> Verdict
+    requires { ⌜ Ready u (h .size) (now additional) × (sizeLegal (h .id) (h .size) ≡ true) ⌝ }
+    ensures { λ r. ⌜ Judges u (h .id) (byId u (request h (now (additional .entry)))) r ⌝ }
 {
     let id = h.id;
     match id {
-        0x00 => provisioning::read_parameters(u, h, additional, answer),
-        0x01 => provisioning::read_state(u, h, additional, answer),
-        0x02 => provisioning::set_key(u, h, additional, answer),
-        0x03 => provisioning::clear_key(u, h, additional, answer),
-        0x04 => provisioning::recover_key(u, h, additional, answer),
-        0x05 => ringing::ring(u, h, additional, answer),
-        0x06 => ringing::read_sound(u, h, additional, answer),
-        0x07 => protecting::protect(u, h, additional, answer),
-        0x08 => protecting::unprotect(u, h, additional, answer),
-        _ => end::refuse(u, Refusal::InvalidValue),
+        0x00 => provisioning::read_parameters(u, h, additional),
+        0x01 => provisioning::read_state(u, h, additional),
+        0x02 => provisioning::set_key(u, h, additional),
+        0x03 => provisioning::clear_key(u, h, additional),
+        0x04 => provisioning::recover_key(u, h, additional),
+        0x05 => ringing::ring(u, h, additional),
+        0x06 => ringing::read_sound(u, h, additional),
+        0x07 => protecting::protect(u, h, additional),
+        0x08 => protecting::unprotect(u, h, additional),
+        _ => grants::denied(u, Refusal::InvalidValue),
     }
 }
 
@@ -92,5 +94,6 @@ pub fn write(u: TagUnit, w: &[u8], answer: &mut [u8]) -> Step
     if !key_there(h.id, u.identity.held) {
         return end::refuse(after, Refusal::NotAuthenticated);
     }
-    by_id(after, h, &w[10..], answer)
+    let v = by_id(after, h, &w[10..]);
+    grants::settle(after, v, h.id, answer)
 }

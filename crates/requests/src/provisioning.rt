@@ -1,36 +1,36 @@
 // The requests 0x00 to 0x04: parameters, provisioning state, setting, clearing and recovering the identity key. Each is judged on the
 // unit with its nonce spent.
 ghost use mathlib.Core.Path.{_≡_};
-ghost use mathlib.Core.Bool.{true, _||_};
-ghost use mathlib.Core.List.{_++_, _∷_};
+ghost use mathlib.Core.Bool.{true, cond, _||_};
+ghost use mathlib.Core.List.{_++_, _∷_, []};
 ghost use Prim.Native.Nat.{_≤_};
 ghost use lib.Dec.{ltb};
-ghost use lib.ListN.{length, replicate};
+ghost use lib.ListN.{length, take, replicate};
 ghost use Rattle.laws.specs.Bytes.{bigEndian};
 ghost use Rattle.unit.specs.WellFormed.{powerLegal};
 ghost use Rattle.wire.specs.Shape.{request};
-ghost use Rattle.wire.specs.Signing.{signed};
-ghost use Rattle.wire.specs.Wrote.{Wrote};
-ghost use Rattle.unit.specs.Standing.{shownIdentifier};
+ghost use Rattle.unit.specs.Standing.{stands};
 ghost use Rattle.requests.specs.Judgement.{proves as isProof};
 ghost use Rattle.requests.specs.Judges.{Ready, Judges};
 ghost use Rattle.requests.specs.Provisioning.{wireByte, curve, readParameters, readState, setKey, clearKey, recoverKey, rekeyed, cleared as clearedUnit, stateBits, ownerFor, owns as isOwner, mayReplace};
 use crate::Found;
+use crate::Grant;
+use crate::Verdict;
+use crate::grants;
 use crate::keys;
 use unit::Identity;
 use unit::Owner;
 use unit::Refusal;
 use unit::Settings;
-use unit::Step;
 use unit::TagUnit;
 use unit::bytes;
 use unit::change;
-use unit::end;
 use unit::standing;
 use wire::Head;
-use wire::answer;
 use wire::blocks;
 use wire::signing;
+
+const RECOVERY: u8 = 1;
 
 // Calibrated power as one signed byte, two's complement.
 pub fn wire_byte(power: i32) -> u8
@@ -71,26 +71,33 @@ fn parameters(s: Settings, seconds: u32) -> [u8; 16]
     ]
 }
 
-// 0x00: the beacon's parameters, encrypted by the account key used.
-pub fn read_parameters(u: TagUnit, h: Head, additional: &[u8], answer: &mut [u8]) -> Step
-    requires { ⌜ Ready u (h .size) (now additional) (now answer) ⌝ }
-    ensures { λ r. ⌜ Judges u (readParameters u (request h (now (additional .entry)))) r (now (answer .entry)) (now (answer .exit)) ⌝ }
+// A block in the room for data.
+fn padded(block: [u8; 16]) -> [u8; 32]
+    ensures { λ r. ⌜ take 16 r ≡ block ⌝ }
 {
-    let accounts = u.accounts;
-    let n = u.nonce;
-    let nonce = n.bytes;
-    let found = keys::first_tagged(accounts, nonce, h, additional);
-    match found {
-        Found::Nowhere => end::refuse(u, Refusal::NotAuthenticated),
-        Found::At(place) => {
-            let key = keys::key_at(accounts, place);
-            let settings = u.settings;
-            let plain = parameters(settings, u.clock.seconds);
-            let data = primitives::encrypt(key, plain);
-            let count = answer::sign(&key, nonce, h.id, &data, answer);
-            end::accept(u, count)
-        }
+    let mut payload = [0; 32];
+    let mut i = 0;
+    while i < 16 {
+        payload[i] = block[i];
+        i += 1;
     }
+    payload
+}
+
+// 0x00: the beacon's parameters, encrypted by the account key used.
+pub fn read_parameters(u: TagUnit, h: Head, additional: &[u8]) -> Verdict
+    requires { ⌜ Ready u (h .size) (now additional) ⌝ }
+    ensures { λ r. ⌜ Judges u (h .id) (readParameters u (request h (now (additional .entry)))) r ⌝ }
+{
+    let found = keys::first_tagged(u, h, additional);
+    let Found::At(place) = found else {
+        return grants::denied(u, Refusal::NotAuthenticated);
+    };
+    let key = keys::key_at(u, place);
+    let settings = u.settings;
+    let plain = parameters(settings, u.clock.seconds);
+    let block = primitives::encrypt(key, plain);
+    grants::giving(u, Grant::Account(place), 16, padded(block))
 }
 
 // Bit 0x01: an identity key is held; bit 0x02: the key used is the owner.
@@ -123,57 +130,46 @@ fn owns(owner: Owner, place: usize) -> bool
     }
 }
 
-// One byte before twenty.
-fn before_id(first: u8, id: [u8; 20]) -> [u8; 21]
-    ensures { λ r. ⌜ r ≡ first ∷ id ⌝ }
+// One byte before twenty, in the room for data.
+fn before_id(first: u8, id: [u8; 20]) -> [u8; 32]
+    ensures { λ r. ⌜ (take 21 r ≡ first ∷ id) × (take 1 r ≡ first ∷ []) ⌝ }
 {
-    let mut joined = [first; 21];
+    let mut payload = [first; 32];
     let mut i = 0;
     while i < 20 {
-        joined[1 + i] = id[i];
+        payload[1 + i] = id[i];
         i += 1;
     }
-    joined
+    payload
 }
 
-// Writes the answer to 0x01: the state, and the identifier where one stands for the current window.
-fn sign_state(u: TagUnit, h: Head, key: [u8; 16], bits: u8, answer: &mut [u8]) -> usize
-    requires { ⌜ 42 ≤ length (now answer) ⌝ }
-    ensures { λ r. ⌜ Wrote (signed key (u .nonce .bytes) (h .id) (bits ∷ shownIdentifier u)) r (now (answer .entry)) (now (answer .exit)) ⌝ }
+// How many bytes 0x01 gives: the state, and the identifier where one stands for the current window.
+fn state_size(u: TagUnit) -> usize
+    ensures { λ r. ⌜ r ≡ cond (stands u) 21 1 ⌝ }
 {
-    let n = u.nonce;
-    let nonce = n.bytes;
     if standing::stands(u) {
-        let i = u.identifier;
-        let id = i.id;
-        let data = before_id(bits, id);
-        return answer::sign(&key, nonce, h.id, &data, answer);
+        return 21;
     }
-    let data = [bits];
-    answer::sign(&key, nonce, h.id, &data, answer)
+    1
 }
 
 // 0x01: the provisioning state. With no owner the key used becomes the owner.
-pub fn read_state(u: TagUnit, h: Head, additional: &[u8], answer: &mut [u8]) -> Step
-    requires { ⌜ Ready u (h .size) (now additional) (now answer) ⌝ }
-    ensures { λ r. ⌜ Judges u (readState u (request h (now (additional .entry)))) r (now (answer .entry)) (now (answer .exit)) ⌝ }
+pub fn read_state(u: TagUnit, h: Head, additional: &[u8]) -> Verdict
+    requires { ⌜ Ready u (h .size) (now additional) ⌝ }
+    ensures { λ r. ⌜ Judges u (h .id) (readState u (request h (now (additional .entry)))) r ⌝ }
 {
-    let accounts = u.accounts;
-    let n = u.nonce;
-    let nonce = n.bytes;
-    let found = keys::first_tagged(accounts, nonce, h, additional);
-    match found {
-        Found::Nowhere => end::refuse(u, Refusal::NotAuthenticated),
-        Found::At(place) => {
-            let key = keys::key_at(accounts, place);
-            let k = u.identity;
-            let before = u.owner;
-            let owner = owner_for(before, place);
-            let bits = state_bits(k.held, owns(owner, place));
-            let count = sign_state(u, h, key, bits, answer);
-            end::accept(change::with_owner(u, owner), count)
-        }
-    }
+    let found = keys::first_tagged(u, h, additional);
+    let Found::At(place) = found else {
+        return grants::denied(u, Refusal::NotAuthenticated);
+    };
+    let before = u.owner;
+    let owner = owner_for(before, place);
+    let bits = state_bits(u.identity.held, owns(owner, place));
+    let i = u.identifier;
+    let id = i.id;
+    let size = state_size(u);
+    let after = change::with_owner(u, owner);
+    grants::giving(after, Grant::Account(place), size, before_id(bits, id))
 }
 
 // Whether bytes prove the identity key that is held.
@@ -219,29 +215,18 @@ fn with_key(u: TagUnit, identity: [u8; 32]) -> TagUnit
 }
 
 // 0x02: sets the identity key.
-pub fn set_key(u: TagUnit, h: Head, additional: &[u8], answer: &mut [u8]) -> Step
-    requires { ⌜ Ready u (h .size) (now additional) (now answer) × (32 ≤ length (now additional)) ⌝ }
-    ensures { λ r. ⌜ Judges u (setKey u (request h (now (additional .entry)))) r (now (answer .entry)) (now (answer .exit)) ⌝ }
+pub fn set_key(u: TagUnit, h: Head, additional: &[u8]) -> Verdict
+    requires { ⌜ Ready u (h .size) (now additional) × (32 ≤ length (now additional)) ⌝ }
+    ensures { λ r. ⌜ Judges u (h .id) (setKey u (request h (now (additional .entry)))) r ⌝ }
 {
-    let accounts = u.accounts;
-    let n = u.nonce;
-    let nonce = n.bytes;
-    let owner = u.owner;
-    match owner {
-        Owner::Nobody => end::refuse(u, Refusal::NotAuthenticated),
-        Owner::Place(place) => {
-            let key = keys::key_at(accounts, place);
-            if !keys::tagged(&key, nonce, h, additional) {
-                return end::refuse(u, Refusal::NotAuthenticated);
-            }
-            if !may_replace(u, h, additional) {
-                return end::refuse(u, Refusal::NotAuthenticated);
-            }
-            let identity = blocks::decrypted_key(key, additional);
-            let count = answer::sign(&key, nonce, h.id, b"", answer);
-            end::accept(with_key(u, identity), count)
-        }
-    }
+    let allowed = may_replace(u, h, additional);
+    let found = keys::owner_tagged(u, allowed, h, additional);
+    let Found::At(place) = found else {
+        return grants::denied(u, Refusal::NotAuthenticated);
+    };
+    let key = keys::key_at(u, place);
+    let identity = blocks::decrypted_key(key, additional);
+    grants::done(with_key(u, identity), Grant::Account(place))
 }
 
 // The unit cleared: fresh, but for settings, clock, last nonce, battery and pairing.
@@ -260,28 +245,16 @@ fn cleared(u: TagUnit) -> TagUnit
 }
 
 // 0x03: clears the identity key.
-pub fn clear_key(u: TagUnit, h: Head, additional: &[u8], answer: &mut [u8]) -> Step
-    requires { ⌜ Ready u (h .size) (now additional) (now answer) ⌝ }
-    ensures { λ r. ⌜ Judges u (clearKey u (request h (now (additional .entry)))) r (now (answer .entry)) (now (answer .exit)) ⌝ }
+pub fn clear_key(u: TagUnit, h: Head, additional: &[u8]) -> Verdict
+    requires { ⌜ Ready u (h .size) (now additional) ⌝ }
+    ensures { λ r. ⌜ Judges u (h .id) (clearKey u (request h (now (additional .entry)))) r ⌝ }
 {
-    let accounts = u.accounts;
-    let n = u.nonce;
-    let nonce = n.bytes;
-    let owner = u.owner;
-    match owner {
-        Owner::Nobody => end::refuse(u, Refusal::NotAuthenticated),
-        Owner::Place(place) => {
-            let key = keys::key_at(accounts, place);
-            if !keys::tagged(&key, nonce, h, additional) {
-                return end::refuse(u, Refusal::NotAuthenticated);
-            }
-            if !proves(u, additional) {
-                return end::refuse(u, Refusal::NotAuthenticated);
-            }
-            let count = answer::sign(&key, nonce, h.id, b"", answer);
-            end::accept(cleared(u), count)
-        }
-    }
+    let allowed = proves(u, additional);
+    let found = keys::owner_tagged(u, allowed, h, additional);
+    let Found::At(place) = found else {
+        return grants::denied(u, Refusal::NotAuthenticated);
+    };
+    grants::done(cleared(u), Grant::Account(place))
 }
 
 // Whether consent is left or pairing is on.
@@ -295,30 +268,26 @@ fn consents(consent: u16, pairing: bool) -> bool
 }
 
 // 0x04: recovers the identity key, with consent or in pairing mode.
-pub fn recover_key(u: TagUnit, h: Head, additional: &[u8], answer: &mut [u8]) -> Step
-    requires { ⌜ Ready u (h .size) (now additional) (now answer) ⌝ }
-    ensures { λ r. ⌜ Judges u (recoverKey u (request h (now (additional .entry)))) r (now (answer .entry)) (now (answer .exit)) ⌝ }
+pub fn recover_key(u: TagUnit, h: Head, additional: &[u8]) -> Verdict
+    requires { ⌜ Ready u (h .size) (now additional) ⌝ }
+    ensures { λ r. ⌜ Judges u (h .id) (recoverKey u (request h (now (additional .entry)))) r ⌝ }
 {
-    let accounts = u.accounts;
-    let n = u.nonce;
-    let nonce = n.bytes;
+    let signed = keys::tagged_by_derived(u, RECOVERY, h, additional);
+    let owner = u.owner;
+    let found = keys::owner_if(owner, signed);
+    let Found::At(place) = found else {
+        return grants::denied(u, Refusal::NotAuthenticated);
+    };
+    if !consents(u.consent, u.pairing) {
+        return grants::denied(u, Refusal::NoConsent);
+    }
+    let key = keys::key_at(u, place);
     let k = u.identity;
     let identity = k.bytes;
-    let owner = u.owner;
-    match owner {
-        Owner::Nobody => end::refuse(u, Refusal::NotAuthenticated),
-        Owner::Place(place) => {
-            let recovery = signing::derived_key(1, identity);
-            if !keys::tagged(&recovery, nonce, h, additional) {
-                return end::refuse(u, Refusal::NotAuthenticated);
-            }
-            if !consents(u.consent, u.pairing) {
-                return end::refuse(u, Refusal::NoConsent);
-            }
-            let key = keys::key_at(accounts, place);
-            let data = blocks::encrypted_key(key, identity);
-            let count = answer::sign(&recovery, nonce, h.id, &data, answer);
-            end::accept(u, count)
-        }
-    }
+    grants::giving(
+        u,
+        Grant::Derived(RECOVERY),
+        32,
+        blocks::encrypted_key(key, identity),
+    )
 }

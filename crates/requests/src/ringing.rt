@@ -1,28 +1,31 @@
 // The requests 0x05 and 0x06: ring, stop, and read what rings. Each is judged on the unit with its nonce spent.
 ghost use mathlib.Core.Path.{_≡_};
 ghost use mathlib.Core.Bool.{_&&_, _||_};
+ghost use mathlib.Core.List.{_∷_};
 ghost use Prim.Native.Nat.{_≤_};
 ghost use lib.Dec.{eqb};
-ghost use lib.ListN.{length};
+ghost use lib.ListN.{length, take};
+ghost use Rattle.laws.specs.Bytes.{bigEndian};
 ghost use Rattle.unit.specs.Numbers.{ringable};
 ghost use Rattle.wire.specs.Shape.{request};
-ghost use Rattle.wire.specs.Signing.{ringKey};
-ghost use Rattle.requests.specs.Judgement.{tagged as isTagged};
+ghost use Rattle.wire.specs.Signing.{ringKey, ringId};
+ghost use Rattle.requests.specs.Judgement.{tagged as isTagged, lastNonce};
 ghost use Rattle.requests.specs.Judges.{Ready, Judges};
 ghost use Rattle.requests.specs.Ringing.{skips as isSkipped, askedMask, wholeMask, askedTimeout, ringMask, ringLegal, heldVolume, rung as rungBy, ring as ringBy, soundState, readSound};
+use crate::Grant;
+use crate::Verdict;
+use crate::grants;
 use crate::keys;
 use unit::Protection;
 use unit::Refusal;
 use unit::Settings;
 use unit::Sound;
-use unit::Step;
 use unit::TagUnit;
 use unit::change;
-use unit::end;
 use unit::legal;
 use wire::Head;
-use wire::answer;
-use wire::signing;
+
+const RING: u8 = 2;
 
 const STARTED: u8 = 0;
 
@@ -107,94 +110,96 @@ fn held_volume(s: Settings, additional: &[u8]) -> u8
     additional[3]
 }
 
-// Rings or stops, and writes the notice, signed with the write's own nonce.
-fn rung(u: TagUnit, mask: u8, volume: u8, left: u16, answer: &mut [u8]) -> Step
-    requires { ⌜ 42 ≤ length (now answer) ⌝ }
-    ensures { λ r. ⌜ Judges u (rungBy u mask volume left) r (now (answer .entry)) (now (answer .exit)) ⌝ }
+// The data of a ring notice.
+fn notice(status: u8, mask: u8, left: u16) -> [u8; 32]
+    ensures { λ r. ⌜ take 4 r ≡ status ∷ (mask ∷ bigEndian 2 left) ⌝ }
 {
-    let k = u.identity;
-    let identity = k.bytes;
+    let mut payload = [0; 32];
+    payload[0] = status;
+    payload[1] = mask;
+    payload[2] = (left / 256) as u8;
+    payload[3] = (left % 256) as u8;
+    payload
+}
+
+// Rings or stops; the answer is a notice, signed with the write's own nonce.
+fn rung(u: TagUnit, mask: u8, volume: u8, left: u16) -> Verdict
+    ensures { λ r. ⌜ Judges u ringId (rungBy u mask volume left) r ⌝ }
+{
+    if mask == 0 {
+        return grants::giving(
+            change::silenced(u),
+            Grant::Derived(RING),
+            4,
+            notice(BY_REQUEST, 0, 0),
+        );
+    }
     let own = u.nonce;
     let nonce = own.bytes;
-    if mask == 0 {
-        let count = answer::notice(identity, nonce, BY_REQUEST, 0, 0, answer);
-        return end::accept(change::silenced(u), count);
-    }
-    let count = answer::notice(identity, nonce, STARTED, mask, left, answer);
     let sound = Sound::Ringing { mask, volume, left };
-    end::accept(change::with_sound(u, sound, nonce), count)
+    grants::giving(
+        change::with_sound(u, sound, nonce),
+        Grant::Derived(RING),
+        4,
+        notice(STARTED, mask, left),
+    )
 }
 
 // Whether a ring is let through: by the skip flag, or by its tag.
-fn let_through(
-    protection: Protection,
-    identity: [u8; 32],
-    nonce: [u8; 8],
-    h: Head,
-    additional: &[u8],
-) -> bool
+fn let_through(u: TagUnit, h: Head, additional: &[u8]) -> bool
     requires { ⌜ length (now additional) ≤ 255 ⌝ }
-    ensures { λ r. ⌜ r ≡ (isSkipped protection || isTagged (ringKey identity) nonce (request h (now (additional .entry)))) ⌝ }
+    ensures { λ r. ⌜ r ≡ (isSkipped (u .protection) || isTagged (ringKey (u .identity .bytes)) (lastNonce u) (request h (now (additional .entry)))) ⌝ }
 {
+    let protection = u.protection;
     if skips(protection) {
         return true;
     }
-    let key = signing::derived_key(2, identity);
-    keys::tagged(&key, nonce, h, additional)
+    keys::tagged_by_derived(u, RING, h, additional)
 }
 
 // 0x05: rings, or stops the ring.
-pub fn ring(u: TagUnit, h: Head, additional: &[u8], answer: &mut [u8]) -> Step
-    requires { ⌜ Ready u (h .size) (now additional) (now answer) × (length (now additional) ≡ 4) ⌝ }
-    ensures { λ r. ⌜ Judges u (ringBy u (request h (now (additional .entry)))) r (now (answer .entry)) (now (answer .exit)) ⌝ }
+pub fn ring(u: TagUnit, h: Head, additional: &[u8]) -> Verdict
+    requires { ⌜ Ready u (h .size) (now additional) × ((length (now additional) ≡ 4) × (h .id ≡ ringId)) ⌝ }
+    ensures { λ r. ⌜ Judges u (h .id) (ringBy u (request h (now (additional .entry)))) r ⌝ }
 {
-    let k = u.identity;
-    let identity = k.bytes;
-    let n = u.nonce;
-    let nonce = n.bytes;
-    let protection = u.protection;
-    if !let_through(protection, identity, nonce, h, additional) {
-        return end::refuse(u, Refusal::NotAuthenticated);
+    if !let_through(u, h, additional) {
+        return grants::denied(u, Refusal::NotAuthenticated);
     }
     let s = u.settings;
     if !ring_legal(s, additional) {
-        return end::refuse(u, Refusal::InvalidValue);
+        return grants::denied(u, Refusal::InvalidValue);
     }
     let mask = ring_mask(s, additional);
     let volume = held_volume(s, additional);
     let left = asked_timeout(additional);
-    rung(u, mask, volume, left, answer)
+    rung(u, mask, volume, left)
 }
 
 // What 0x06 gives: mask and tenths left, zeros when silent.
-fn sound_state(sound: Sound) -> [u8; 3]
-    ensures { λ r. ⌜ r ≡ soundState sound ⌝ }
+fn sound_state(sound: Sound) -> [u8; 32]
+    ensures { λ r. ⌜ take 3 r ≡ soundState sound ⌝ }
 {
-    match sound {
-        Sound::Silent => [0, 0, 0],
-        Sound::Ringing {
-            mask,
-            volume: _,
-            left,
-        } => [mask, (left / 256) as u8, (left % 256) as u8],
+    let mut payload = [0; 32];
+    if let Sound::Ringing {
+        mask,
+        volume: _,
+        left,
+    } = sound {
+        payload[0] = mask;
+        payload[1] = (left / 256) as u8;
+        payload[2] = (left % 256) as u8;
     }
+    payload
 }
 
 // 0x06: reads what rings.
-pub fn read_sound(u: TagUnit, h: Head, additional: &[u8], answer: &mut [u8]) -> Step
-    requires { ⌜ Ready u (h .size) (now additional) (now answer) ⌝ }
-    ensures { λ r. ⌜ Judges u (readSound u (request h (now (additional .entry)))) r (now (answer .entry)) (now (answer .exit)) ⌝ }
+pub fn read_sound(u: TagUnit, h: Head, additional: &[u8]) -> Verdict
+    requires { ⌜ Ready u (h .size) (now additional) ⌝ }
+    ensures { λ r. ⌜ Judges u (h .id) (readSound u (request h (now (additional .entry)))) r ⌝ }
 {
-    let k = u.identity;
-    let identity = k.bytes;
-    let n = u.nonce;
-    let nonce = n.bytes;
-    let key = signing::derived_key(2, identity);
-    if !keys::tagged(&key, nonce, h, additional) {
-        return end::refuse(u, Refusal::NotAuthenticated);
+    if !keys::tagged_by_derived(u, RING, h, additional) {
+        return grants::denied(u, Refusal::NotAuthenticated);
     }
     let sound = u.sound;
-    let data = sound_state(sound);
-    let count = answer::sign(&key, nonce, h.id, &data, answer);
-    end::accept(u, count)
+    grants::giving(u, Grant::Derived(RING), 3, sound_state(sound))
 }

@@ -1,8 +1,9 @@
 -- `handle::write` meets its contract: shape, live nonce and identity key are tested in this order, and then the handler judges.
 -- Assumes nothing.
 use Rattle.laws.proofs.Flags.{granted, refuted}
-use Rattle.requests.proofs.Chosen.{judged-shapeless, judged-dead, judged-keyless, judged-by-id, write-refused, key-there, write-ready, write-judged}
+use Rattle.requests.proofs.Chosen.{judged-shapeless, judged-dead, judged-keyless, judged-by-id, write-refused, key-there, after-formed, write-ready, write-judged}
 use Rattle.requests.proofs.Shaped.{head-inside}
+use Rattle.unit.proofs.Lines.{lines}
 use Rattle.unit.specs.declared.Refusal.{Refusal}
 use borrow.Author.Needs.{needs}
 use borrow.Author.Tests.{not-true, not-false}
@@ -90,22 +91,30 @@ part-by-id-end c = search needs
 
 by-id-requires : tie.Need-by-id-requires
 by-id-requires c κs =
-    let head-of-at = c .before .before .before .before in
+    let head-of-at = c .before .before .before in
     let if1-at = head-of-at .before .before .before in
     let shape-legal-at = if1-at .before in
     let spent-at = shape-legal-at .before in
     let start = spent-at .before .before .before in
     let known = start .args in
-    write-ready (known .u) (known .w .now) (spent-at .spent .ensures) (head-of-at .head-of .ensures) (start .pre .0) (start .pre .1)
+    write-ready (known .u) (known .w .now) (spent-at .spent .ensures) (head-of-at .head-of .ensures) (start .pre .0)
     (granted (shape-legal-at .shape-legal .ensures) (if1-at .if1 .left))
+
+settle-requires : tie.Need-settle-requires
+settle-requires c κs =
+    let spent-at = c .before .before .before .before .before .before .before .before .before .before in
+    let start = spent-at .before .before .before in
+    let formed = after-formed (start .args .u) (start .args .w .now) (spent-at .spent .ensures) (start .pre .0) in
+    (c .before .by-id .ensures .signable, (lines (spent-at .spent .result) formed .accounts .count, start .pre .1))
 
 same-length : tie.Need-same-length
 same-length c = search needs
 
 returns-4 : tie.Need-returns-4
 returns-4 c =
-    let by-id-at = c .before .before in
-    let if3-at = by-id-at .before .before .before in
+    let settle-at = c .before .before in
+    let by-id-at = settle-at .before .before in
+    let if3-at = by-id-at .before .before in
     let key-there-at = if3-at .before in
     let head-of-at = key-there-at .before in
     let if2-at = head-of-at .before in
@@ -113,12 +122,12 @@ returns-4 c =
     let shape-legal-at = if1-at .before in
     let spent-at = shape-legal-at .before in
     let known = spent-at .before .before .before .args in
-    write-judged (known .u) (known .w .now) (spent-at .spent .ensures) (head-of-at .head-of .ensures) (by-id-at .by-id .result)
+    write-judged (known .u) (known .w .now) (spent-at .spent .ensures) (head-of-at .head-of .ensures) (settle-at .settle .result)
     (judged-by-id (known .u) (known .w .now) (granted (shape-legal-at .shape-legal .ensures) (if1-at .if1 .left))
     (not-false (known .u .nonce .live) (if2-at .if2 .left))
     (key-there (known .u) (known .w .now) (spent-at .spent .ensures) (head-of-at .head-of .ensures)
     (key-there-at .key-there .ensures) ∙ not-false _ (if3-at .if3 .left)))
-    (by-id-at .by-id .ensures)
+    (by-id-at .by-id .ensures) (settle-at .settle .ensures)
 
 pub write-spec : {M : Type 1} → statement M
 write-spec =
@@ -138,5 +147,6 @@ write-spec =
     part-by-id-start
     part-by-id-end
     by-id-requires
+    settle-requires
     same-length
     returns-4)

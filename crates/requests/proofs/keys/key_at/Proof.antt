@@ -15,8 +15,8 @@ array-copy-out-k c = search needs
 returns : tie.Need-returns
 unfolding heldKeys
 returns c =
-    let start = c .before .before .before in
-    sym (held-at (start .args .a .keys) (start .args .a .count) (start .args .place) (start .pre .0))
+    let start = c .before .before .before .before in
+    sym (held-at (start .args .u .accounts .keys) (start .args .u .accounts .count) (start .args .place) (start .pre .0))
 
 pub key-at-spec : {M : Type 1} → statement M
 key-at-spec = tie.close (tie.spec mul-k array-copy-out-k returns)

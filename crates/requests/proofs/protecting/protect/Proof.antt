@@ -1,101 +1,70 @@
 -- `protecting::protect` meets its contract, an end each. Assumes nothing.
 use Rattle.laws.proofs.Flags.{granted, refuted}
 use Rattle.requests.proofs.Protects.{protect-untagged, protect-flag, protect-on}
-use Rattle.requests.proofs.Settled.{refusal, acceptance}
-use Rattle.requests.specs.Protecting.{protect}
-use Rattle.unit.specs.declared.Refusal.{Refusal}
+use Rattle.requests.proofs.Settled.{denial, by-derived}
 use Rattle.wire.specs.Shape.{request}
 use borrow.Author.Needs.{needs}
+use mathlib.Core.Path.{refl}
+use native.Mathlib.Omega.{arith}
 use Rattle.requests.proofs.protecting.protect.Statement.{statement}
 use Rattle.requests.proofs.protecting.protect.Tie as tie
 
-derived-key-requires : tie.Need-derived-key-requires
-derived-key-requires c κs = search needs
+tagged-by-derived-requires : tie.Need-tagged-by-derived-requires
+tagged-by-derived-requires c κs = search needs
 
-slice-aggregate-tagged : tie.Need-slice-aggregate-tagged
-slice-aggregate-tagged c = search needs
-
-tagged-requires : tie.Need-tagged-requires
-tagged-requires c κs = search needs
-
-refuse-requires : tie.Need-refuse-requires
-refuse-requires c κs = search needs
+denied-requires : tie.Need-denied-requires
+denied-requires c κs = search needs
 
 returns : tie.Need-returns
 returns c =
     let tagged-at = c .before .before in
-    let derived-key-at = tagged-at .before .before in
-    let known = derived-key-at .before .before .before .before .before .before .before .args in
+    let known = tagged-at .before .before .args in
     let q = request (known .h) (known .additional .now) in
-    refusal (known .u) (protect (known .u) q) (c .refuse .result) Refusal.NotAuthenticated (known .answer .now) (c .refuse .ensures)
-    (protect-untagged (known .u) q (derived-key-at .derived-key .ensures) (refuted (tagged-at .tagged .ensures) (c .before .if1 .taken)))
+    denial (known .u) (known .h .id) (c .denied .ensures)
+    (protect-untagged (known .u) q (refuted (tagged-at .tagged-by-derived .ensures) (c .before .if1 .taken)))
 
 flag-of-requires : tie.Need-flag-of-requires
 flag-of-requires c κs = search needs
 
-refuse-requires-2 : tie.Need-refuse-requires-2
-refuse-requires-2 c κs = search needs
+denied-requires-2 : tie.Need-denied-requires-2
+denied-requires-2 c κs = search needs
 
 returns-2 : tie.Need-returns-2
 returns-2 c =
     let flag-of-at = c .before .before in
     let if1-at = flag-of-at .before in
-    let tagged-at = if1-at .before in
-    let derived-key-at = tagged-at .before .before in
-    let known = derived-key-at .before .before .before .before .before .before .before .args in
+    let known = if1-at .before .before .before .args in
     let q = request (known .h) (known .additional .now) in
-    refusal (known .u) (protect (known .u) q) (c .refuse2 .result) Refusal.InvalidValue (known .answer .now) (c .refuse2 .ensures)
-    (protect-flag (known .u) q (derived-key-at .derived-key .ensures) (granted (tagged-at .tagged .ensures) (if1-at .if1 .left))
-    (flag-of-at .flag-of .ensures) (c .before .if2 .taken))
-
-slice-aggregate-sign : tie.Need-slice-aggregate-sign
-slice-aggregate-sign c = search needs
-
-slice-aggregate-sign-2 : tie.Need-slice-aggregate-sign-2
-slice-aggregate-sign-2 c = search needs
-
-sign-requires : tie.Need-sign-requires
-sign-requires c κs = search needs
+    denial (known .u) (known .h .id) (c .denied2 .ensures)
+    (protect-flag (known .u) q (granted (if1-at .before .tagged-by-derived .ensures) (if1-at .if1 .left)) (flag-of-at .flag-of .ensures)
+    (c .before .if2 .taken))
 
 with-protection-requires : tie.Need-with-protection-requires
 with-protection-requires c κs = search needs
 
-accept-requires : tie.Need-accept-requires
-accept-requires c κs = search needs
-
-same-length : tie.Need-same-length
-same-length c = search needs
+done-requires : tie.Need-done-requires
+done-requires c κs = search needs
 
 returns-3 : tie.Need-returns-3
 returns-3 c =
-    let sign-at = c .before .before .before .before in
-    let if2-at = sign-at .before .before .before .before in
-    let flag-of-at = if2-at .before in
-    let if1-at = flag-of-at .before in
-    let tagged-at = if1-at .before in
-    let derived-key-at = tagged-at .before .before in
-    let known = derived-key-at .before .before .before .before .before .before .before .args in
+    let if2-at = c .before .before in
+    let if1-at = if2-at .before .before in
+    let known = if1-at .before .before .before .args in
     let q = request (known .h) (known .additional .now) in
-    acceptance (known .u) (protect (known .u) q) (c .accept .result) (c .accept .ensures) (sign-at .sign .ensures)
-    (protect-on (known .u) q (derived-key-at .derived-key .ensures) (granted (tagged-at .tagged .ensures) (if1-at .if1 .left))
-    (flag-of-at .flag-of .ensures) (if2-at .if2 .left) (c .before .with-protection .ensures))
+    by-derived (known .u) (known .h .id) refl (omega arith) (c .done .ensures)
+    (protect-on (known .u) q (granted (if1-at .before .tagged-by-derived .ensures) (if1-at .if1 .left)) (if2-at .before .flag-of .ensures)
+    (if2-at .if2 .left) (c .before .with-protection .ensures))
 
 pub protect-spec : {M : Type 1} → statement M
 protect-spec =
     tie.close
     (tie.spec
-    derived-key-requires
-    slice-aggregate-tagged
-    tagged-requires
-    refuse-requires
+    tagged-by-derived-requires
+    denied-requires
     returns
     flag-of-requires
-    refuse-requires-2
+    denied-requires-2
     returns-2
-    slice-aggregate-sign
-    slice-aggregate-sign-2
-    sign-requires
     with-protection-requires
-    accept-requires
-    same-length
+    done-requires
     returns-3)

@@ -1,79 +1,48 @@
 -- `ringing::read_sound` meets its contract, an end each. Assumes nothing.
 use Rattle.laws.proofs.Flags.{granted, refuted}
 use Rattle.requests.proofs.Rings.{sound-untagged, sound-read}
-use Rattle.requests.proofs.Settled.{refusal, acceptance}
-use Rattle.requests.specs.Ringing.{readSound}
-use Rattle.unit.specs.declared.Refusal.{Refusal}
+use Rattle.requests.proofs.Settled.{denial, by-derived}
 use Rattle.wire.specs.Shape.{request}
 use borrow.Author.Needs.{needs}
+use native.Mathlib.Omega.{arith}
 use Rattle.requests.proofs.ringing.read_sound.Statement.{statement}
 use Rattle.requests.proofs.ringing.read_sound.Tie as tie
 
-derived-key-requires : tie.Need-derived-key-requires
-derived-key-requires c κs = search needs
+tagged-by-derived-requires : tie.Need-tagged-by-derived-requires
+tagged-by-derived-requires c κs = search needs
 
-slice-aggregate-tagged : tie.Need-slice-aggregate-tagged
-slice-aggregate-tagged c = search needs
-
-tagged-requires : tie.Need-tagged-requires
-tagged-requires c κs = search needs
-
-refuse-requires : tie.Need-refuse-requires
-refuse-requires c κs = search needs
+denied-requires : tie.Need-denied-requires
+denied-requires c κs = search needs
 
 returns : tie.Need-returns
 returns c =
     let tagged-at = c .before .before in
-    let derived-key-at = tagged-at .before .before in
-    let known = derived-key-at .before .before .before .before .before .before .before .args in
+    let known = tagged-at .before .before .args in
     let q = request (known .h) (known .additional .now) in
-    refusal (known .u) (readSound (known .u) q) (c .refuse .result) Refusal.NotAuthenticated (known .answer .now) (c .refuse .ensures)
-    (sound-untagged (known .u) q (derived-key-at .derived-key .ensures) (refuted (tagged-at .tagged .ensures) (c .before .if1 .taken)))
+    denial (known .u) (known .h .id) (c .denied .ensures)
+    (sound-untagged (known .u) q (refuted (tagged-at .tagged-by-derived .ensures) (c .before .if1 .taken)))
 
 sound-state-requires : tie.Need-sound-state-requires
 sound-state-requires c κs = search needs
 
-slice-aggregate-sign : tie.Need-slice-aggregate-sign
-slice-aggregate-sign c = search needs
-
-slice-aggregate-sign-2 : tie.Need-slice-aggregate-sign-2
-slice-aggregate-sign-2 c = search needs
-
-sign-requires : tie.Need-sign-requires
-sign-requires c κs = search needs
-
-accept-requires : tie.Need-accept-requires
-accept-requires c κs = search needs
-
-same-length : tie.Need-same-length
-same-length c = search needs
+giving-requires : tie.Need-giving-requires
+giving-requires c κs = search needs
 
 returns-2 : tie.Need-returns-2
 returns-2 c =
-    let sign-at = c .before .before .before in
-    let sound-state-at = sign-at .before .before .before .before in
-    let if1-at = sound-state-at .before in
-    let tagged-at = if1-at .before in
-    let derived-key-at = tagged-at .before .before in
-    let known = derived-key-at .before .before .before .before .before .before .before .args in
+    let if1-at = c .before .before in
+    let known = if1-at .before .before .before .args in
     let q = request (known .h) (known .additional .now) in
-    acceptance (known .u) (readSound (known .u) q) (c .accept .result) (c .accept .ensures) (sign-at .sign .ensures)
-    (sound-read (known .u) q (derived-key-at .derived-key .ensures) (granted (tagged-at .tagged .ensures) (if1-at .if1 .left))
-    (sound-state-at .sound-state .ensures))
+    by-derived (known .u) (known .h .id) (c .before .sound-state .ensures) (omega arith) (c .giving .ensures)
+    (sound-read (known .u) q (granted (if1-at .before .tagged-by-derived .ensures) (if1-at .if1 .left)))
 
 pub read-sound-spec : {M : Type 1} → statement M
 read-sound-spec =
     tie.close
     (tie.spec
-    derived-key-requires
-    slice-aggregate-tagged
-    tagged-requires
-    refuse-requires
+    tagged-by-derived-requires
+    denied-requires
     returns
     sound-state-requires
-    slice-aggregate-sign
-    slice-aggregate-sign-2
-    sign-requires
-    accept-requires
-    same-length
+    giving-requires
     returns-2)
