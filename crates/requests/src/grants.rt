@@ -74,8 +74,8 @@ fn sign_derived(
     requires { ⌜ (size ≤ 32) × (42 ≤ length (now answer)) ⌝ }
     ensures { λ r. ⌜ Wrote (signed (derivedKey number (u .identity .bytes)) (lastNonce u) id (take size payload)) r (now (answer .entry)) (now (answer .exit)) ⌝ }
 {
-    let n = u.nonce;
-    let nonce = n.bytes;
+    let own = u.nonce;
+    let nonce = own.bytes;
     let derived = keys::derived(u, number);
     answer::sign(&derived, nonce, id, &payload[..size], answer)
 }
