@@ -88,7 +88,8 @@ pub enum Finished {
 
 const NEWLINE: u8 = 10;
 
-const FINISH_ROOM: usize = 64;
+// Room that holds what the end of a file prints.
+pub const FINISH_ROOM: usize = 64;
 
 // A session before its first byte.
 pub fn begin() -> Session
@@ -112,7 +113,8 @@ pub fn begin() -> Session
     }
 }
 
-// Feeds a piece of the file. Takes bytes while the room left holds what any one line prints.
+// Feeds a piece of the file, and writes what it prints; the lent bytes behind that stay. Takes bytes while LINE_ROOM lent bytes are left, and
+// the whole piece once the run has ended. A session whose counts exceed their rooms takes nothing.
 pub fn feed(s: Session, piece: &[u8], out: &mut [u8]) -> Fed
     ensures { λ r. ⌜ Feeds s (now (piece .entry)) (now (out .entry)) (r .session) (r .taken) (r .written) (now (out .exit)) ⌝ }
 {
@@ -208,7 +210,8 @@ fn opened(p: Progress, line: [u8; 256]) -> After
     }
 }
 
-// The end of the file: nothing, or that a line is missing or not closed.
+// The end of the file: writes nothing, or that a line is missing or not closed. With fewer lent bytes than FINISH_ROOM: NoRoom, and nothing
+// is written.
 pub fn finish(s: Session, out: &mut [u8]) -> Finished
     ensures { λ r. ⌜ Finishes s (now (out .entry)) r (now (out .exit)) ⌝ }
 {
