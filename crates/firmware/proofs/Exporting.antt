@@ -30,9 +30,9 @@ use Rattle.requests.specs.Judgement.{Judgement, accepts, rejects}
 use Rattle.requests.specs.Write.{written, judged, settled}
 use Rattle.tag.specs.Calls.{newUnit, nonceFits, issuing, read, write, pressed, button, elapsed, setPairing, setBattery, keeping, addKey, lending, lendIdentifier, showing, frame}
 use Rattle.tag.specs.Time.{tenths}
-use Rattle.firmware.specs.Layout.{decoded, encoded}
+use Rattle.stored.specs.Layout.{decoded, encoded}
 use Rattle.firmware.specs.Exported.{code, resultCode, recordAfter, bytesAfter, endCode, writesBack, Exports, ExportsAnswer, ExportsDigest, Finishes, digestCode}
-use Rattle.firmware.proofs.RoundTrip.{other-length, noUnit-malformed}
+use Rattle.stored.proofs.RoundTrip.{other-length, noUnit-malformed}
 
 -- bytes that mean a well-formed unit are a whole record
 well-formed-length : (b : List ℕ) → wellFormed (decoded b) ≡ true → length b ≡ 214

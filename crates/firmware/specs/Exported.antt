@@ -12,7 +12,7 @@ use Rattle.unit.specs.declared.TagUnit.{TagUnit}
 use Rattle.unit.specs.Refusals.{End, wrote, refused}
 use Rattle.unit.specs.Outcome.{Outcome, refusing}
 use Rattle.tag.specs.Calls.{noUnit}
-use Rattle.firmware.specs.Layout.{encoded, recordBytes}
+use Rattle.stored.specs.Layout.{encoded, recordBytes}
 
 -- the number of bytes written, or 256 and the refusal's number; and, 65,536 times, the tenth at which a ring ended
 abbrev pub refusalBase : ℕ

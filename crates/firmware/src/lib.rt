@@ -6,16 +6,15 @@ ghost use lib.Dec.{eqb};
 ghost use lib.ListN.{length};
 ghost use Rattle.primitives.specs.Calls.{hashed, authenticated, encrypted, decrypted};
 ghost use Rattle.tag.specs.Calls.{newUnit, read as readOf, write as writeOf, button as buttonOf, elapsed as elapsedOf, setPairing, setBattery, addKey, lendIdentifier, frame as frameOf};
-ghost use Rattle.firmware.specs.Layout.{decoded};
+ghost use Rattle.stored.specs.Layout.{decoded};
 ghost use Rattle.firmware.specs.Exported.{Exports, ExportsAnswer, ExportsDigest, newIn};
+use stored::decode;
 use unit::Refusal;
 use unit::Reply;
 
 // 65,536 times the tenth at which a ring ended stands in the number of elapsed time.
 const ENDED_BASE: u64 = 65536;
 
-mod decode;
-mod encode;
 mod finish;
 
 // A new unit in the record. Refusals: 2 for a record of another length, then 1 for settings out of range; the bytes then stay.

@@ -1,7 +1,7 @@
 -- `firmware::tag_account_key` meets its contract: what the tag and the end of the call promise. Assumes nothing.
 use borrow.Author.Needs.{needs}
 use Rattle.tag.specs.Calls.{addKey}
-use Rattle.firmware.specs.Layout.{decoded}
+use Rattle.stored.specs.Layout.{decoded}
 use Rattle.firmware.proofs.Exporting.{back-whole, exported, key-whole, key-untimed}
 use Rattle.firmware.proofs.tag_account_key.Statement.{statement}
 use Rattle.firmware.proofs.tag_account_key.Tie as tie

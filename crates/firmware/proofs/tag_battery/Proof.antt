@@ -1,7 +1,7 @@
 -- `firmware::tag_battery` meets its contract: what the tag and the end of the call promise. Assumes nothing.
 use borrow.Author.Needs.{needs}
 use Rattle.tag.specs.Calls.{setBattery}
-use Rattle.firmware.specs.Layout.{decoded}
+use Rattle.stored.specs.Layout.{decoded}
 use Rattle.firmware.proofs.Exporting.{back-whole, exported, battery-whole, battery-untimed}
 use Rattle.firmware.proofs.tag_battery.Statement.{statement}
 use Rattle.firmware.proofs.tag_battery.Tie as tie

@@ -2,7 +2,7 @@
 use lib.ListN.{length}
 use borrow.Author.Needs.{needs}
 use Rattle.tag.specs.Calls.{button}
-use Rattle.firmware.specs.Layout.{decoded}
+use Rattle.stored.specs.Layout.{decoded}
 use Rattle.firmware.proofs.Exporting.{back-whole, exported-answer, button-whole, button-untimed}
 use Rattle.firmware.proofs.tag_button.Statement.{statement}
 use Rattle.firmware.proofs.tag_button.Tie as tie

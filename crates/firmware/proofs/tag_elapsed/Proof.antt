@@ -6,7 +6,7 @@ use borrow.Author.Needs.{needs}
 use Rattle.unit.specs.Refusals.{endOf}
 use Rattle.tag.specs.Calls.{elapsed}
 use Rattle.firmware.specs.Exported.{code, endCode}
-use Rattle.firmware.specs.Layout.{decoded}
+use Rattle.stored.specs.Layout.{decoded}
 use Rattle.firmware.proofs.Exporting.{back-whole, elapsed-whole, finished-code, finished-record, code-small}
 use Rattle.firmware.proofs.tag_elapsed.Statement.{statement}
 use Rattle.firmware.proofs.tag_elapsed.Tie as tie

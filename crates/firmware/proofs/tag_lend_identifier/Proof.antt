@@ -1,7 +1,7 @@
 -- `firmware::tag_lend_identifier` meets its contract: what the tag and the end of the call promise. Assumes nothing.
 use borrow.Author.Needs.{needs}
 use Rattle.tag.specs.Calls.{lendIdentifier}
-use Rattle.firmware.specs.Layout.{decoded}
+use Rattle.stored.specs.Layout.{decoded}
 use Rattle.firmware.proofs.Exporting.{back-whole, exported, identifier-whole, identifier-untimed}
 use Rattle.firmware.proofs.tag_lend_identifier.Statement.{statement}
 use Rattle.firmware.proofs.tag_lend_identifier.Tie as tie

@@ -3,7 +3,7 @@ use mathlib.Core.Bool.{not}
 use lib.Dec.{eqb}
 use borrow.Author.Needs.{needs}
 use Rattle.tag.specs.Calls.{setPairing}
-use Rattle.firmware.specs.Layout.{decoded}
+use Rattle.stored.specs.Layout.{decoded}
 use Rattle.firmware.proofs.Exporting.{back-whole, exported, pairing-whole, pairing-untimed}
 use Rattle.firmware.proofs.tag_pairing.Statement.{statement}
 use Rattle.firmware.proofs.tag_pairing.Tie as tie

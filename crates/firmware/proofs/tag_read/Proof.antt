@@ -2,7 +2,7 @@
 use lib.ListN.{length}
 use borrow.Author.Needs.{needs}
 use Rattle.tag.specs.Calls.{read}
-use Rattle.firmware.specs.Layout.{decoded}
+use Rattle.stored.specs.Layout.{decoded}
 use Rattle.firmware.proofs.Exporting.{back-whole, exported-answer, read-whole, read-untimed}
 use Rattle.firmware.proofs.tag_read.Statement.{statement}
 use Rattle.firmware.proofs.tag_read.Tie as tie

@@ -2,7 +2,7 @@
 use lib.ListN.{length}
 use borrow.Author.Needs.{needs}
 use Rattle.tag.specs.Calls.{write}
-use Rattle.firmware.specs.Layout.{decoded}
+use Rattle.stored.specs.Layout.{decoded}
 use Rattle.firmware.proofs.Exporting.{back-whole, exported-answer, write-whole, write-untimed}
 use Rattle.firmware.proofs.tag_write.Statement.{statement}
 use Rattle.firmware.proofs.tag_write.Tie as tie
