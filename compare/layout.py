@@ -23,7 +23,7 @@ def number(text):
 
 def main():
     assigned = r"^(\w+) = (\d+(?: \^ \d+)?|0x[0-9a-fA-F]+)$"
-    layout = defined("crates/firmware/specs/Layout.antt", assigned)
+    layout = defined("crates/stored/specs/Layout.antt", assigned)
     exported = defined("crates/firmware/specs/Exported.antt", assigned)
     room = defined("crates/unit/specs/Numbers.antt", r"^(answerRoom) = (\d+)$")
     refusals = defined("crates/unit/specs/Refusals.antt", r"^number (\w+) = (0x[0-9a-fA-F]+|\d+)$")
