@@ -27,11 +27,11 @@ def main():
     exported = defined("crates/firmware/specs/Exported.antt", assigned)
     room = defined("crates/unit/specs/Numbers.antt", r"^(answerRoom) = (\d+)$")
     refusals = defined("crates/unit/specs/Refusals.antt", r"^number (\w+) = (0x[0-9a-fA-F]+|\d+)$")
-    size = defined("crates/primitives/specs/Calls.antt", r"^refusal(Number) = (\d+)$")
+    size = defined("crates/primitives/specs/Calls.antt", r"^number Ending\.(WrongSize) = (\d+)$")
     status = defined("crates/wire/specs/Signing.antt", r"^(started|timedOut|byButton|byRequest) = (\d+)$")
     status = {"ring" + n[0].upper() + n[1:]: v for n, v in status.items()}
     wanted = {header_name(n): number(v) for n, v in {**layout, **exported, **room, **refusals, **status}.items()}
-    wanted["TAG_WRONG_SIZE"] = number(size["Number"])
+    wanted["TAG_WRONG_SIZE"] = number(size["WrongSize"])
     header = {n: number(v) for n, v in defined("include/tag.h", r"^#define (TAG_\w+) (0x[0-9a-fA-F]+|\d+)\b").items()}
     differing = sorted(n for n in wanted.keys() | header.keys() if wanted.get(n) != header.get(n))
     for name in differing:
