@@ -12,6 +12,7 @@ awk 'BEGIN {
         print "event=battery"; print "level=" (n % 4); print "event=write"; print "data=0908000102030405060708090a0b0c0d0e0f"
         n += 8
     }
+    while (n < 999999) { print "event=button"; n++ }
 }' > "$file"
 bytes=$(wc -c < "$file")
 start=$(date +%s%N)
