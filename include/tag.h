@@ -90,7 +90,8 @@ extern "C" {
 #define TAG_WINDOW_AT 210        /* 4 bytes */
 
 /* A new unit, fresh, in a record of TAG_RECORD_BYTES bytes: power -100 to 20, components 0 to 3, volume selectable 0 or 1.
- * Refusals: 2 for a record of another length, 1 for settings out of range; the bytes then stay as they were. Gives 0. */
+ * Refusals: 2 for a record of another length, 1 for settings out of range; the bytes then stay as they were, and must not be
+ * used as a unit: zeros, for one, are a record. Gives 0. */
 uint64_t tag_new(uint8_t *record, size_t record_bytes, int32_t power, uint32_t components, uint32_t selectable);
 
 /* Read: issues the lent nonce of 8 bytes, which replaces any other. Answer: 0x01 and the nonce. Refusals: 6, 2, 3. Gives 9. */
