@@ -1,38 +1,88 @@
 #!/usr/bin/env python3
-"""Checks that include/tag.h and the definitions name the same sizes, places, refusals and statuses, no fewer and no more."""
+"""Checks that include/tag.h and the definitions name the same sizes, places, refusals and statuses, no fewer and no more.
+
+A size has the definition's name (nonceSize is TAG_NONCE_SIZE). A place has the names of the innermost group and of the field
+(TAG_NONCE_HELD_AT), or of the field alone where it stands in the unit itself or is a group's only one (TAG_CONSENT_AT, TAG_PROTECTION_AT).
+"""
 import pathlib
 import re
 import sys
 
 ROOT = pathlib.Path(__file__).resolve().parent.parent
+SIZES = "crates/sizes/specs/Sizes.antt"
+PARTS = ["crates/record_parts/specs/Kinds.antt", "crates/record_parts/specs/Groups.antt", "crates/stored/specs/Record.antt"]
+KINDS = {"byte": "byteSize", "flag": "byteSize", "power": "powerSize"}
 
 
-def defined(path, pattern):
-    text = (ROOT / path).read_text()
-    return dict(re.findall(pattern, text, re.M))
+def read(path):
+    return (ROOT / path).read_text()
 
 
 def header_name(name):
     return "TAG_" + re.sub(r"(?<!^)([A-Z])", r"_\1", name).upper()
 
 
-def number(text):
-    base, _, power = text.partition("^")
-    return int(base, 0) ** int(power) if power else int(base, 0)
+def numbers(text):
+    """The definitions of a file that are sums, products and powers of numbers and of each other, by name."""
+    found = {}
+    for name, value in re.findall(r"^(\w+) =\s+((?:[\w+*^ ]|\n    )+)$", text, re.M):
+        found[name] = " ".join(value.split()).replace("^", "**")
+    return found
+
+
+def value(expression, names):
+    """What an expression over numbers and names is worth."""
+    inside = lambda m: m[0] if m[0][0].isdigit() else str(value(names[m[0]], names))
+    return eval(re.sub(r"\w+", inside, expression))
+
+
+def fields(group, text):
+    """The fields of a group in order: part and name."""
+    table = re.search(rf"^{group}Fields =\n((?:    .*\n)+)", text, re.M)[1]
+    found = []
+    for part, name in re.findall(r"^    then (.*?) of (.*)$", table, re.M):
+        name = re.sub(r"^\(λ \w+\. \w+ \.|[«»)]", "", name)
+        name = re.sub(rf"^{group}(?=[A-Z])", "", name)
+        found.append((part, name[0].lower() + name[1:]))
+    return found
+
+
+def places(group, at, text, sizes):
+    """Where the fields of a group that starts at a place stand; and where it ends."""
+    found, own = {}, fields(group, text)
+    for part, name in own:
+        if part.startswith("whole "):
+            inner, at = places(part.split()[1].removesuffix("Fields"), at, text, sizes)
+            found.update(inner)
+            continue
+        alone = group == "unit" or len(own) == 1
+        label = (name if group == "unit" else group) if alone else group + name[0].upper() + name[1:]
+        found[header_name(label) + "_AT"] = at
+        kind = part.split()
+        at += value(KINDS.get(kind[0]) or kind[1], sizes)
+    return found, at
 
 
 def main():
-    assigned = r"^(\w+) = (\d+(?: \^ \d+)?|0x[0-9a-fA-F]+)$"
-    layout = defined("crates/stored/specs/Layout.antt", assigned)
-    exported = defined("crates/firmware/specs/Exported.antt", assigned)
-    room = defined("crates/unit/specs/Numbers.antt", r"^(answerRoom) = (\d+)$")
-    refusals = defined("crates/unit/specs/Refusals.antt", r"^number (\w+) = (0x[0-9a-fA-F]+|\d+)$")
-    size = defined("crates/primitives/specs/Calls.antt", r"^number Ending\.(WrongSize) = (\d+)$")
-    status = defined("crates/wire/specs/Signing.antt", r"^(started|timedOut|byButton|byRequest) = (\d+)$")
-    status = {"ring" + n[0].upper() + n[1:]: v for n, v in status.items()}
-    wanted = {header_name(n): number(v) for n, v in {**layout, **exported, **room, **refusals, **status}.items()}
-    wanted["TAG_WRONG_SIZE"] = number(size["WrongSize"])
-    header = {n: number(v) for n, v in defined("include/tag.h", r"^#define (TAG_\w+) (0x[0-9a-fA-F]+|\d+)\b").items()}
+    sizes = numbers(read(SIZES))
+    public = [n for n in sizes if n.endswith("Size") or n in ("answerRoom", "mostKeys")]
+    text = "".join(map(read, PARTS))
+    everything = {**sizes, **numbers(text)}
+    wanted = {header_name(n): value(n, everything) for n in [*public, "recordSize", "version"]}
+    found, end = places("unit", value("byteSize", everything), text, everything)
+    assert end == wanted["TAG_RECORD_SIZE"]
+    wanted.update(found, TAG_VERSION_AT=0)
+    exported = numbers(read("crates/firmware/specs/Exported.antt"))
+    wanted.update((header_name(n), value(n, exported)) for n in exported)
+    calls = read("crates/primitives/specs/Calls.antt")
+    wanted["TAG_LONGEST_MESSAGE"] = value("longestMessage", numbers(calls))
+    wanted["TAG_WRONG_SIZE"] = int(re.search(r"^number Ending\.WrongSize = (\d+)$", calls, re.M)[1])
+    for name, n in re.findall(r"^number (\w+) = (0x[0-9a-fA-F]+|\d+)$", read("crates/unit/specs/Refusals.antt"), re.M):
+        wanted[header_name(name)] = int(n, 0)
+    for name, n in re.findall(r"^(started|timedOut|byButton|byRequest) = (\d+)$", read("crates/wire/specs/Signing.antt"), re.M):
+        wanted[header_name("ring" + name[0].upper() + name[1:])] = int(n)
+    macros = dict(re.findall(r"^#define (TAG_\w+) (\([^/\n]*\)|\w+)", read("include/tag.h"), re.M))
+    header = {n: value(n, macros) for n in macros}
     differing = sorted(n for n in wanted.keys() | header.keys() if wanted.get(n) != header.get(n))
     for name in differing:
         print(f"{name}: the definitions say {wanted.get(name)}, the header says {header.get(name)}")

@@ -7,7 +7,7 @@
 #include "tag.h"
 
 enum { SIZE = 1 << 20, PAINT = 0xA5 };
-static uint8_t stack[SIZE], record[TAG_RECORD_BYTES], answer[64], key[16] = {7}, message[65535];
+static uint8_t stack[SIZE], record[TAG_RECORD_SIZE], answer[64], key[16] = {7}, message[65535];
 static ucontext_t here, there;
 static uint64_t served;
 

@@ -5,12 +5,12 @@
 #include <stdlib.h>
 #include <string.h>
 
-static uint8_t record[TAG_RECORD_BYTES];
+static uint8_t record[TAG_RECORD_SIZE];
 static uint8_t answer[TAG_ANSWER_ROOM];
-static uint8_t nonce[8];
+static uint8_t nonce[TAG_NONCE_SIZE];
 
-static const uint8_t account_key[16] = {0x04, 1, 2, 3, 4, 5, 6, 7, 8, 9, 10, 11, 12, 13, 14, 15};
-static const uint8_t identity[32] = {7, 7, 7, 7, 9, 9, 9, 9, 1, 2, 3, 4, 5, 6, 7, 8, 8, 7, 6, 5, 4, 3, 2, 1, 9, 9, 9, 9, 7, 7, 7, 7};
+static const uint8_t account_key[TAG_ACCOUNT_KEY_SIZE] = {0x04, 1, 2, 3, 4, 5, 6, 7, 8, 9, 10, 11, 12, 13, 14, 15};
+static const uint8_t identity[TAG_IDENTITY_KEY_SIZE] = {7, 7, 7, 7, 9, 9, 9, 9, 1, 2, 3, 4, 5, 6, 7, 8, 8, 7, 6, 5, 4, 3, 2, 1, 9, 9, 9, 9, 7, 7, 7, 7};
 
 /* Says what a call gave, and stops the program where it was refused against expectation. */
 static uint32_t expect(const char *what, uint64_t number) {
@@ -83,7 +83,7 @@ static void recover(void) {
 }
 
 static void save_and_reload(const char *path) {
-    static const uint8_t r[20] = {1}, id[20] = {2};
+    static const uint8_t r[TAG_IDENTIFIER_SIZE] = {1}, id[TAG_IDENTIFIER_SIZE] = {2};
     FILE *file = fopen(path, "wb");
     if (!file || fwrite(record, 1, sizeof record, file) != sizeof record || fclose(file)) exit(1);
     memset(record, 0xFF, sizeof record);
@@ -104,7 +104,7 @@ int main(int count, char **words) {
            (unsigned)TAG_ENDED_AT(number));
     ring(600);
     expect("button", tag_button(record, sizeof record, answer, sizeof answer));
-    printf("button: status %u, %s\n", answer[10], record[TAG_SOUND_AT] ? "ringing" : "silent");
+    printf("button: status %u, %s\n", answer[10], record[TAG_SOUND_KIND_AT] ? "ringing" : "silent");
     recover();
     save_and_reload(count > 1 ? words[1] : "unit.record");
     return 0;

@@ -2,25 +2,25 @@
 //! the record. It plays the phone too, which makes the requests with the library's own primitives.
 use std::fs;
 
-const RECORD_BYTES: usize = 214;
+const RECORD_SIZE: usize = 215;
 const ANSWER_ROOM: usize = 42;
-const IDENTITY_HELD_AT: usize = 118;
-const SOUND_AT: usize = 151;
+const IDENTITY_HELD_AT: usize = 119;
+const SOUND_KIND_AT: usize = 152;
 
 // The declarations of include/tag.h: a slice passes as its pointer and its length.
 extern "C" {
-    fn tag_new(record: *mut u8, n: usize, power: i32, components: u32, selectable: u32) -> u64;
-    fn tag_read(record: *mut u8, n: usize, nonce: *const u8, m: usize, answer: *mut u8, room: usize) -> u64;
-    fn tag_write(record: *mut u8, n: usize, request: *const u8, m: usize, answer: *mut u8, room: usize) -> u64;
-    fn tag_button(record: *mut u8, n: usize, answer: *mut u8, room: usize) -> u64;
-    fn tag_elapsed(record: *mut u8, n: usize, tenths: u32, answer: *mut u8, room: usize) -> u64;
-    fn tag_account_key(record: *mut u8, n: usize, key: *const u8, m: usize) -> u64;
-    fn tag_lend_identifier(record: *mut u8, n: usize, r: *const u8, m: usize, id: *const u8, k: usize) -> u64;
-    fn tag_frame(record: *mut u8, n: usize, answer: *mut u8, room: usize) -> u64;
-    fn tag_sha256(message: *const u8, n: usize, answer: *mut u8, room: usize) -> u64;
-    fn tag_hmac_sha256(key: *const u8, n: usize, message: *const u8, m: usize, answer: *mut u8, room: usize) -> u64;
-    fn tag_aes128_encrypt(key: *const u8, n: usize, block: *const u8, m: usize, answer: *mut u8, room: usize) -> u64;
-    fn tag_aes128_decrypt(key: *const u8, n: usize, block: *const u8, m: usize, answer: *mut u8, room: usize) -> u64;
+    fn tag_new(record: *mut u8, n: u64, power: i32, components: u32, selectable: u32) -> u64;
+    fn tag_read(record: *mut u8, n: u64, nonce: *const u8, m: u64, answer: *mut u8, room: u64) -> u64;
+    fn tag_write(record: *mut u8, n: u64, request: *const u8, m: u64, answer: *mut u8, room: u64) -> u64;
+    fn tag_button(record: *mut u8, n: u64, answer: *mut u8, room: u64) -> u64;
+    fn tag_elapsed(record: *mut u8, n: u64, tenths: u32, answer: *mut u8, room: u64) -> u64;
+    fn tag_account_key(record: *mut u8, n: u64, key: *const u8, m: u64) -> u64;
+    fn tag_lend_identifier(record: *mut u8, n: u64, r: *const u8, m: u64, id: *const u8, k: u64) -> u64;
+    fn tag_frame(record: *mut u8, n: u64, answer: *mut u8, room: u64) -> u64;
+    fn tag_sha256(message: *const u8, n: u64, answer: *mut u8, room: u64) -> u64;
+    fn tag_hmac_sha256(key: *const u8, n: u64, message: *const u8, m: u64, answer: *mut u8, room: u64) -> u64;
+    fn tag_aes128_encrypt(key: *const u8, n: u64, block: *const u8, m: u64, answer: *mut u8, room: u64) -> u64;
+    fn tag_aes128_decrypt(key: *const u8, n: u64, block: *const u8, m: u64, answer: *mut u8, room: u64) -> u64;
 }
 
 const ACCOUNT_KEY: [u8; 16] = [4, 1, 2, 3, 4, 5, 6, 7, 8, 9, 10, 11, 12, 13, 14, 15];
@@ -40,20 +40,20 @@ fn given(number: u64) -> Result<Given, u64> {
 }
 
 struct Host {
-    record: [u8; RECORD_BYTES],
+    record: [u8; RECORD_SIZE],
     answer: [u8; ANSWER_ROOM],
     nonce: u64,
 }
 
 impl Host {
     /// A call that takes the record alone.
-    fn settle(&mut self, call: impl FnOnce(*mut u8, usize) -> u64) -> Result<Given, u64> {
-        given(call(self.record.as_mut_ptr(), RECORD_BYTES))
+    fn settle(&mut self, call: impl FnOnce(*mut u8, u64) -> u64) -> Result<Given, u64> {
+        given(call(self.record.as_mut_ptr(), RECORD_SIZE as u64))
     }
 
     /// A call that takes the record and answer bytes.
-    fn ask(&mut self, call: impl FnOnce(*mut u8, usize, *mut u8, usize) -> u64) -> Result<Given, u64> {
-        given(call(self.record.as_mut_ptr(), RECORD_BYTES, self.answer.as_mut_ptr(), ANSWER_ROOM))
+    fn ask(&mut self, call: impl FnOnce(*mut u8, u64, *mut u8, u64) -> u64) -> Result<Given, u64> {
+        given(call(self.record.as_mut_ptr(), RECORD_SIZE as u64, self.answer.as_mut_ptr(), ANSWER_ROOM as u64))
     }
 
     /// The phone: a request with its tag under a key, on a nonce just issued.
@@ -64,9 +64,9 @@ impl Host {
         let size = 8 + data.len() as u8;
         let covered = [&[1], &nonce[..], &[id, size], data].concat();
         let mut tag = [0; 32];
-        given(unsafe { tag_hmac_sha256(key.as_ptr(), key.len(), covered.as_ptr(), covered.len(), tag.as_mut_ptr(), 32) })?;
+        given(unsafe { tag_hmac_sha256(key.as_ptr(), key.len() as u64, covered.as_ptr(), covered.len() as u64, tag.as_mut_ptr(), 32) })?;
         let write = [&[id, size], &tag[..8], data].concat();
-        self.ask(|u, n, a, room| unsafe { tag_write(u, n, write.as_ptr(), write.len(), a, room) })
+        self.ask(|u, n, a, room| unsafe { tag_write(u, n, write.as_ptr(), write.len() as u64, a, room) })
     }
 
     fn ring(&mut self, tenths: u16) -> Result<(), u64> {
@@ -82,11 +82,11 @@ impl Host {
 fn derived(which: u8) -> Result<[u8; 8], u64> {
     let message = [&IDENTITY[..], &[which]].concat();
     let mut digest = [0; 32];
-    given(unsafe { tag_sha256(message.as_ptr(), message.len(), digest.as_mut_ptr(), 32) })?;
+    given(unsafe { tag_sha256(message.as_ptr(), message.len() as u64, digest.as_mut_ptr(), 32) })?;
     Ok(digest[..8].try_into().unwrap())
 }
 
-type Cipher = unsafe extern "C" fn(*const u8, usize, *const u8, usize, *mut u8, usize) -> u64;
+type Cipher = unsafe extern "C" fn(*const u8, u64, *const u8, u64, *mut u8, u64) -> u64;
 
 fn blocks(cipher: Cipher, from: &[u8]) -> Result<[u8; 32], u64> {
     let mut to = [0; 32];
@@ -133,14 +133,14 @@ fn save_and_reload(host: &mut Host, path: &str) -> Result<(), u64> {
 }
 
 fn session(path: &str) -> Result<(), u64> {
-    let mut host = Host { record: [0; RECORD_BYTES], answer: [0; ANSWER_ROOM], nonce: 0 };
+    let mut host = Host { record: [0; RECORD_SIZE], answer: [0; ANSWER_ROOM], nonce: 0 };
     provision(&mut host)?;
     host.ring(50)?;
     let passed = host.ask(|u, n, a, room| unsafe { tag_elapsed(u, n, 80, a, room) })?;
     println!("80 tenths later: notice of {} bytes, status {}, the ring ended at tenth {}", passed.bytes, host.answer[10], passed.ended);
     host.ring(600)?;
     host.ask(|u, n, a, room| unsafe { tag_button(u, n, a, room) })?;
-    println!("button: status {}, {}", host.answer[10], if host.record[SOUND_AT] == 1 { "ringing" } else { "silent" });
+    println!("button: status {}, {}", host.answer[10], if host.record[SOUND_KIND_AT] == 1 { "ringing" } else { "silent" });
     recover(&mut host)?;
     save_and_reload(&mut host, path)
 }

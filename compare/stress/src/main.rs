@@ -4,19 +4,23 @@
 use reference::tag::{self, Protection, Sound, Unit};
 use std::collections::BTreeMap;
 
-const RECORD: usize = 214;
+const RECORD: usize = 215;
+const VERSION: u8 = 1;
+const NONCE_LIVE_AT: usize = 13;
+const NONCE_AT: usize = 14;
+const KEYS_AT: usize = 39;
 
 extern "C" {
-    fn tag_new(record: *mut u8, n: usize, power: i32, components: u32, selectable: u32) -> u64;
-    fn tag_read(record: *mut u8, n: usize, nonce: *const u8, m: usize, answer: *mut u8, room: usize) -> u64;
-    fn tag_write(record: *mut u8, n: usize, data: *const u8, m: usize, answer: *mut u8, room: usize) -> u64;
-    fn tag_button(record: *mut u8, n: usize, answer: *mut u8, room: usize) -> u64;
-    fn tag_elapsed(record: *mut u8, n: usize, tenths: u32, answer: *mut u8, room: usize) -> u64;
-    fn tag_pairing(record: *mut u8, n: usize, on: u32) -> u64;
-    fn tag_battery(record: *mut u8, n: usize, level: u32) -> u64;
-    fn tag_account_key(record: *mut u8, n: usize, key: *const u8, m: usize) -> u64;
-    fn tag_lend_identifier(record: *mut u8, n: usize, r: *const u8, m: usize, id: *const u8, k: usize) -> u64;
-    fn tag_frame(record: *mut u8, n: usize, answer: *mut u8, room: usize) -> u64;
+    fn tag_new(record: *mut u8, n: u64, power: i32, components: u32, selectable: u32) -> u64;
+    fn tag_read(record: *mut u8, n: u64, nonce: *const u8, m: u64, answer: *mut u8, room: u64) -> u64;
+    fn tag_write(record: *mut u8, n: u64, data: *const u8, m: u64, answer: *mut u8, room: u64) -> u64;
+    fn tag_button(record: *mut u8, n: u64, answer: *mut u8, room: u64) -> u64;
+    fn tag_elapsed(record: *mut u8, n: u64, tenths: u32, answer: *mut u8, room: u64) -> u64;
+    fn tag_pairing(record: *mut u8, n: u64, on: u32) -> u64;
+    fn tag_battery(record: *mut u8, n: u64, level: u32) -> u64;
+    fn tag_account_key(record: *mut u8, n: u64, key: *const u8, m: u64) -> u64;
+    fn tag_lend_identifier(record: *mut u8, n: u64, r: *const u8, m: u64, id: *const u8, k: u64) -> u64;
+    fn tag_frame(record: *mut u8, n: u64, answer: *mut u8, room: u64) -> u64;
 }
 
 /// xorshift64*: the same calls for the same seed.
@@ -43,15 +47,16 @@ impl Random {
 /// The record layout of include/tag.h, written anew from its comment.
 fn encode(u: &Unit) -> Vec<u8> {
     let mut b = Vec::with_capacity(RECORD);
+    b.push(VERSION);
     b.extend((u.power as u32).to_be_bytes());
     b.extend([u.components as u8, u.selectable as u8]);
     b.extend(u.seconds.to_be_bytes());
     b.extend([u.tenth as u8, u.has_nonce as u8, u.live as u8]);
     b.extend(u.nonce);
     b.extend(u.key_count.to_be_bytes());
-    u.keys.iter().for_each(|k| b.extend(k));
     b.push(u.has_owner as u8);
     b.extend(u.owner.to_be_bytes());
+    u.keys.iter().for_each(|k| b.extend(k));
     b.push(u.has_identity as u8);
     b.extend(u.identity);
     match u.sound {
@@ -74,52 +79,84 @@ fn encode(u: &Unit) -> Vec<u8> {
     b
 }
 
-fn part<const N: usize>(b: &[u8], at: usize) -> [u8; N] {
-    b[at..at + N].try_into().unwrap()
+/// The bytes of a record that are not read yet.
+struct Rest<'a>(&'a [u8]);
+
+impl Rest<'_> {
+    fn bytes<const N: usize>(&mut self) -> [u8; N] {
+        let (first, rest) = self.0.split_at(N);
+        self.0 = rest;
+        first.try_into().unwrap()
+    }
+    fn byte(&mut self) -> u8 {
+        self.bytes::<1>()[0]
+    }
+    fn flag(&mut self) -> Option<bool> {
+        match self.byte() {
+            0 => Some(false),
+            1 => Some(true),
+            _ => None,
+        }
+    }
 }
 
-/// The unit that bytes mean; none where their length is wrong or a byte names no variant.
+/// The unit that bytes mean; none where their length or their version is wrong, a byte names no variant, or a variant that holds nothing has
+/// something in its room.
 fn decode(b: &[u8]) -> Option<Unit> {
-    if b.len() != RECORD || [11, 12, 109, 118, 151, 167, 169].iter().any(|&i| b[i] > 1) || b[164] > 2 {
+    if b.len() != RECORD || b[0] != VERSION {
         return None;
     }
-    let owner = u64::from_be_bytes(part(b, 110));
-    if b[109] == 0 && owner != 0 || b[151] == 0 && b[152..156] != [0; 4] {
-        return None;
-    }
+    let mut rest = Rest(&b[1..]);
+    let power = i32::from_be_bytes(rest.bytes());
+    let (components, selectable) = (rest.byte() as u32, rest.byte() as u32);
+    let seconds = u32::from_be_bytes(rest.bytes());
+    let tenth = rest.byte() as u32;
+    let (has_nonce, live, nonce) = (rest.flag()?, rest.flag()?, rest.bytes());
+    let key_count = u64::from_be_bytes(rest.bytes());
+    let (has_owner, owner) = (rest.flag()?, u64::from_be_bytes(rest.bytes()));
     let mut keys = [[0; 16]; 5];
-    keys.iter_mut().enumerate().for_each(|(i, k)| *k = part(b, 29 + 16 * i));
+    keys.iter_mut().for_each(|k| *k = rest.bytes());
+    let (has_identity, identity) = (rest.flag()?, rest.bytes());
+    let (ringing, mask, volume, left) = (rest.flag()?, rest.byte() as u32, rest.byte() as u32, u16::from_be_bytes(rest.bytes()) as u32);
+    let ring_nonce = rest.bytes();
+    let protection = match rest.byte() {
+        0 => Protection::Off,
+        n @ 1..=2 => Protection::On { skip: n == 2 },
+        _ => return None,
+    };
+    let consent = u16::from_be_bytes(rest.bytes()) as u32;
+    let (pairing, battery) = (rest.flag()?, rest.byte() as u32);
+    let (has_identifier, r, identifier) = (rest.flag()?, rest.bytes(), rest.bytes());
+    let window = u32::from_be_bytes(rest.bytes());
+    if !has_owner && owner != 0 || !ringing && (mask, volume, left) != (0, 0, 0) {
+        return None;
+    }
+    let sound = if ringing { Sound::Ringing { mask, volume, left } } else { Sound::Silent };
     Some(Unit {
-        power: i32::from_be_bytes(part(b, 0)),
-        components: b[4] as u32,
-        selectable: b[5] as u32,
-        seconds: u32::from_be_bytes(part(b, 6)),
-        tenth: b[10] as u32,
-        has_nonce: b[11] == 1,
-        live: b[12] == 1,
-        nonce: part(b, 13),
-        key_count: u64::from_be_bytes(part(b, 21)),
+        power,
+        components,
+        selectable,
+        seconds,
+        tenth,
+        has_nonce,
+        live,
+        nonce,
+        key_count,
         keys,
-        has_owner: b[109] == 1,
+        has_owner,
         owner,
-        has_identity: b[118] == 1,
-        identity: part(b, 119),
-        sound: match b[151] {
-            0 => Sound::Silent,
-            _ => Sound::Ringing { mask: b[152] as u32, volume: b[153] as u32, left: u16::from_be_bytes(part(b, 154)) as u32 },
-        },
-        ring_nonce: part(b, 156),
-        protection: match b[164] {
-            0 => Protection::Off,
-            n => Protection::On { skip: n == 2 },
-        },
-        consent: u16::from_be_bytes(part(b, 165)) as u32,
-        pairing: b[167] == 1,
-        battery: b[168] as u32,
-        has_identifier: b[169] == 1,
-        r: part(b, 170),
-        identifier: part(b, 190),
-        window: u32::from_be_bytes(part(b, 210)),
+        has_identity,
+        identity,
+        sound,
+        ring_nonce,
+        protection,
+        consent,
+        pairing,
+        battery,
+        has_identifier,
+        r,
+        identifier,
+        window,
     })
 }
 
@@ -156,18 +193,18 @@ fn kind(c: &Call) -> usize {
 
 /// The call over the C boundary.
 fn ours(c: &Call, record: &mut [u8], answer: &mut [u8]) -> u64 {
-    let (r, n, a, room) = (record.as_mut_ptr(), record.len(), answer.as_mut_ptr(), answer.len());
+    let (r, n, a, room) = (record.as_mut_ptr(), record.len() as u64, answer.as_mut_ptr(), answer.len() as u64);
     unsafe {
         match c {
             Call::New(p, k, s) => tag_new(r, n, *p, *k, *s),
-            Call::Read(b) => tag_read(r, n, b.as_ptr(), b.len(), a, room),
-            Call::Write(b) => tag_write(r, n, b.as_ptr(), b.len(), a, room),
+            Call::Read(b) => tag_read(r, n, b.as_ptr(), b.len() as u64, a, room),
+            Call::Write(b) => tag_write(r, n, b.as_ptr(), b.len() as u64, a, room),
             Call::Button => tag_button(r, n, a, room),
             Call::Elapsed(t) => tag_elapsed(r, n, *t, a, room),
             Call::Pairing(on) => tag_pairing(r, n, *on),
             Call::Battery(level) => tag_battery(r, n, *level),
-            Call::AccountKey(b) => tag_account_key(r, n, b.as_ptr(), b.len()),
-            Call::Identifier(x, y) => tag_lend_identifier(r, n, x.as_ptr(), x.len(), y.as_ptr(), y.len()),
+            Call::AccountKey(b) => tag_account_key(r, n, b.as_ptr(), b.len() as u64),
+            Call::Identifier(x, y) => tag_lend_identifier(r, n, x.as_ptr(), x.len() as u64, y.as_ptr(), y.len() as u64),
             Call::Frame => tag_frame(r, n, a, room),
         }
     }
@@ -270,7 +307,7 @@ fn some_write(rng: &mut Random, record: &[u8]) -> Vec<u8> {
 }
 
 fn some_call(rng: &mut Random, record: &[u8]) -> Call {
-    if record.len() == RECORD && record[12] == 1 && rng.one_in(2) {
+    if record.len() == RECORD && record[NONCE_LIVE_AT] == 1 && rng.one_in(2) {
         return Call::Write(some_write(rng, record));
     }
     match rng.below(40) {
@@ -278,7 +315,7 @@ fn some_call(rng: &mut Random, record: &[u8]) -> Call {
         0..=9 => {
             let n = if rng.one_in(12) { rng.below(12) as usize } else { 8 };
             let fresh = rng.bytes(n);
-            Call::Read(if rng.one_in(15) && record.len() == RECORD { record[13..21].to_vec() } else { fresh })
+            Call::Read(if rng.one_in(15) && record.len() == RECORD { record[NONCE_AT..NONCE_AT + 8].to_vec() } else { fresh })
         }
         10..=23 => Call::Write(some_write(rng, record)),
         24..=25 => Call::Button,
@@ -287,7 +324,7 @@ fn some_call(rng: &mut Random, record: &[u8]) -> Call {
         30 => Call::Battery(rng.below(6) as u32 * if rng.one_in(8) { 64 } else { 1 }),
         31..=33 => {
             let n = if rng.one_in(8) { rng.below(20) as usize } else { 16 };
-            Call::AccountKey(if rng.one_in(3) && record.len() == RECORD { record[29..45].to_vec() } else { rng.bytes(n) })
+            Call::AccountKey(if rng.one_in(3) && record.len() == RECORD { record[KEYS_AT..KEYS_AT + 16].to_vec() } else { rng.bytes(n) })
         }
         34..=35 => {
             let (n, m) = if rng.one_in(8) { (rng.below(22) as usize, rng.below(22) as usize) } else { (20, 20) };
@@ -299,10 +336,11 @@ fn some_call(rng: &mut Random, record: &[u8]) -> Call {
 
 fn damaged(rng: &mut Random, record: &[u8]) -> Vec<u8> {
     let mut b = record.to_vec();
-    match rng.below(6) {
-        0 => b.truncate(rng.below(214) as usize),
+    match rng.below(8) {
+        0 => b.truncate(rng.below(RECORD as u64) as usize),
         1 => b.push(0),
         2 => b = rng.bytes(RECORD),
+        3 => b = vec![[0, 0xFF][rng.below(2) as usize]; RECORD],
         _ => {
             for _ in 0..=rng.below(2) {
                 let i = rng.below(RECORD as u64) as usize;

@@ -1,6 +1,6 @@
 -- The two boxes, by one test that antt computes at every byte: the tables hold what the standard's rules give, the power
 -- b^254 is the field's inverse, and the boxes undo each other. The inverse of b is read back off the box's entry, so that
--- its power is computed once. Assumes nothing.
+-- its power is computed once.
 use mathlib.Core.Path.{_≡_, sym, ap, _∙_}
 use mathlib.Core.Bool.{cond}
 use mathlib.Core.List.{List, [], _∷_, map}

@@ -1,5 +1,4 @@
 -- What the operations leave of "every element is below 256", stated as getD s i 0 < 256 at every i: it holds past the end too.
--- Assumes nothing.
 use mathlib.Core.Path.{_≡_, ap}
 use mathlib.Core.List.{List, [], _∷_, _++_, map}
 use Prim.Native.Nat.{ℕ, zero, suc, _+_, _*_, _/_, _^_, _≤_, _<_}

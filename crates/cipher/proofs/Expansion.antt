@@ -1,4 +1,4 @@
--- The key schedule of a key of 4 * Nk bytes: how long it is, and that it is of bytes. Assumes nothing.
+-- The key schedule of a key of 4 * Nk bytes: how long it is, and that it is of bytes.
 use mathlib.Core.Path.{_≡_, ap, ap₂, _∙_}
 use mathlib.Core.Bool.{Bool, true, false, cond, _&&_}
 use mathlib.Core.List.{List, _++_}

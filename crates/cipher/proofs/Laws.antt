@@ -1,5 +1,5 @@
 -- What crates above cite of AES-128: a block comes out as 16 bytes, whatever block goes in, under a key of 16 bytes. The round
--- trips are in `RoundTrip`. Assumes nothing.
+-- trips are in `RoundTrip`.
 use mathlib.Core.Path.{_≡_}
 use mathlib.Core.List.{List}
 use Prim.Native.Nat.{ℕ, _+_, _*_, _≤_, _<_}

@@ -1,6 +1,5 @@
 -- A byte's product with a coefficient respects XOR, so that what is shown of products at the powers of 2 holds at every byte:
 -- the coefficients of MixColumns and InvMixColumns by way of 2, and that mixing with the one undoes mixing with the other.
--- Assumes nothing.
 use mathlib.Core.Path.{_≡_, refl, sym, ap, ap₂, _∙_}
 use mathlib.Core.List.{List, [], _∷_}
 use Prim.Native.Nat.{ℕ, zero, suc, _-_, _*_, _/_, _%_, _^_, _≤_, _<_}

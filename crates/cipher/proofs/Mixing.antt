@@ -1,6 +1,5 @@
 -- Mixing a column with the coefficients b undoes mixing it with a, as soon as it does so for columns with one power of 2 in one
 -- row: mixing respects XOR, and a column is the XOR of its four bytes. One law; MixColumns and InvMixColumns are its two uses.
--- Assumes nothing.
 use mathlib.Core.Path.{_≡_, refl, sym, ap, ap₂, _∙_}
 use mathlib.Core.List.{List, [], _∷_}
 use Prim.Native.Nat.{ℕ, zero, suc, _+_, _*_, _/_, _%_, _^_, _<_}

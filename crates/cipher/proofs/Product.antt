@@ -1,5 +1,5 @@
 -- The field's product and inverse in a form that antt computes faster: one pass over the coefficients, and one square a
--- power. Assumes nothing.
+-- power.
 use mathlib.Core.Path.{_≡_, sym, _∙_, ap}
 use Prim.Native.Nat.{ℕ, zero, suc, _+_, _*_, _/_, _%_, _^_}
 use native.Mathlib.Nat.{add-zero, add-suc, suc-add, div-one}

@@ -1,5 +1,5 @@
 -- The inverse cipher undoes the cipher, and the cipher the inverse cipher: step by step, then by induction on the rounds, for any
--- schedule of bytes that is long enough; AES-128 is a use. Assumes nothing.
+-- schedule of bytes that is long enough; AES-128 is a use.
 use mathlib.Core.Path.{_≡_, ap, _∙_}
 use mathlib.Core.List.{List, map, map-map, map-id}
 use Prim.Native.Nat.{ℕ, zero, suc, _+_, _-_, _*_, _≤_, _<_}

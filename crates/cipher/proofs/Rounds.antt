@@ -1,4 +1,4 @@
--- The rounds one at a time: none, and one more, each way. Assumes nothing.
+-- The rounds one at a time: none, and one more, each way.
 use mathlib.Core.Path.{_≡_, refl}
 use mathlib.Core.List.{List}
 use Prim.Native.Nat.{ℕ, _+_}

@@ -1,5 +1,5 @@
 -- A state is 16 bytes, and the steps, the cipher and the inverse cipher give states: substitution gives bytes whatever it is
--- given, and the other steps place 16 of them. Assumes nothing.
+-- given, and the other steps place 16 of them.
 use mathlib.Core.Path.{_≡_, _∙_}
 use mathlib.Core.List.{List}
 use Prim.Native.Nat.{ℕ, zero, suc, _+_, _-_, _*_, _/_, _%_, _≤_, _<_}

@@ -1,5 +1,4 @@
 -- Words of four bytes: a word by its bytes, read from a list and stored into one; and a turn of the key expansion.
--- Assumes nothing.
 use mathlib.Core.Path.{_≡_, sym, ap, ap₂, _∙_}
 use mathlib.Core.List.{List, [], _∷_, _++_, map}
 use Prim.Native.Nat.{ℕ, suc, _+_, _-_, _*_, _/_, _%_, _≤_, _<_}

@@ -1,6 +1,5 @@
 -- AES as FIPS 197 defines it: the four steps and their inverses on a state of 16 bytes, the key expansion over Nk and Nr, the
 -- cipher and the inverse cipher. AES-128 is Nk = 4, Nr = 10. Byte i of the state is row i mod 4, column i / 4 (§3.4).
--- Assumes nothing.
 use Prim.Native.Nat.{ℕ, zero, suc, _+_, _-_, _*_, _/_, _%_}
 use mathlib.Core.Bool.{cond, _&&_}
 use mathlib.Core.List.{List, [], _∷_, _++_, map}

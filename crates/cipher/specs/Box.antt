@@ -1,4 +1,4 @@
--- The substitution box of FIPS 197, §5.1.1, and its inverse, §5.3.2, as rules and not as tables. Assumes nothing.
+-- The substitution box of FIPS 197, §5.1.1, and its inverse, §5.3.2, as rules and not as tables.
 use Prim.Native.Nat.{ℕ, zero, suc, _+_, _*_, _^_, _%_}
 use Rattle.cipher.specs.Field.{bit, inverse}
 

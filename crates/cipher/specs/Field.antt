@@ -1,5 +1,4 @@
 -- The field GF(2^8) of FIPS 197 (2001; clause numbers of that edition), §4: a byte is a polynomial of degree below 8, taken modulo x^8 + x^4 + x^3 + x + 1.
--- Assumes nothing.
 use Prim.Native.Nat.{ℕ, zero, suc, _*_, _/_, _%_, _^_}
 use mathlib.Core.Bool.{cond}
 use lib.Dec.{ltb}

@@ -1,5 +1,5 @@
 -- What the calls other than writes do to nonce and keys: a read changes the nonce only, an account key is added behind the others only,
--- and the rest leave all of it alone. Assumes nothing.
+-- and the rest leave all of it alone.
 use Prim.Native.Nat.{ℕ, zero, suc, _<_}
 use mathlib.Core.Path.{_≡_, refl, _∙_}
 use mathlib.Core.Bool.{not, _&&_}
@@ -10,15 +10,16 @@ use borrow.Author.Tests.{eqb-true, ltb-true, not-false}
 use Rattle.laws.specs.Answer.{Result}
 use Rattle.unit.specs.declared.TagUnit.{TagUnit}
 use Rattle.unit.specs.declared.Sound.{Sound}
-use Rattle.unit.specs.Numbers.{accountKeyBytes, identifierBytes, mostKeys, highestBattery}
-use Rattle.unit.specs.WellFormed.{heldKeys, among}
+use Rattle.sizes.specs.Sizes.{accountKeySize, identifierSize, mostKeys, highestBattery}
+use Rattle.tables.specs.Rows.{among}
+use Rattle.unit.specs.WellFormed.{heldKeys}
 use Rattle.unit.specs.Standing.{stands}
-use Rattle.unit.specs.Change.{withAccounts}
+use Rattle.unit.specs.Change.{withAccounts, withNewKey}
 use Rattle.unit.specs.Outcome.{Outcome, giving}
-use Rattle.tag.specs.Time.{endsNext, ringOn, oneTenth, afterTenth, tenths}
-use Rattle.tag.specs.Calls.{pressed, showing, lending, keeping, withNewKey}
-use Rattle.demands.specs.History.{Call, read, write, button, elapsed, pairing, battery, accountKey, identifier, frame}
-use Rattle.demands.proofs.Guards.{own}
+use Rattle.time.specs.Time.{endsNext, ringOn, oneTenth, afterTenth, tenths}
+use Rattle.tag.specs.Own.{pressed, showing, lending, charged, keeping}
+use Rattle.tag.specs.Calls.{Written, read, write, button, pairing, battery, accountKey, identifier, frame, own, Act, calls, waits}
+use Rattle.demands.proofs.Guards.{ownOf}
 use Rattle.demands.proofs.Ruled.{Alone, alone, choose}
 
 -- an outcome whose unit is left alone
@@ -29,9 +30,9 @@ then : {u v w : TagUnit} → Alone u v → Alone v w → Alone u w
 then f g =
     record {
       nonce = g .nonce ∙ f .nonce;
-      accounts = g .accounts ∙ f .accounts;
+      table = g .table ∙ f .table;
       identity = g .identity ∙ f .identity;
-      owner = λ p e. g .owner p (f .owner p e);
+      owner = λ key e. g .owner key (f .owner key e);
     }
 
 ring-alone : (u : TagUnit) → Alone u (ringOn u)
@@ -42,7 +43,7 @@ tenth-alone : (u : TagUnit) → Alone u (oneTenth u)
 unfolding oneTenth
 tenth-alone u =
     let r = ring-alone u in
-    record { nonce = r .nonce; accounts = r .accounts; identity = r .identity; owner = r .owner }
+    record { nonce = r .nonce; table = r .table; identity = r .identity; owner = r .owner }
 
 tenths-alone : (n : ℕ) (u : TagUnit) → Alone u (tenths n u .unit)
 unfolding tenths afterTenth
@@ -61,57 +62,59 @@ pressed-alone (Sound.Ringing mask volume left) u = search
 lending-alone : (r id : List ℕ) (u : TagUnit) → Alone u (lending r id u .unit)
 unfolding lending
 lending-alone r id u =
-    choose (Leaves u) (not (eqb (length r) identifierBytes && eqb (length id) identifierBytes)) (λ e. alone u)
+    choose (Leaves u) (not (eqb (length r) identifierSize && eqb (length id) identifierSize)) (λ e. alone u)
     (λ e. choose (Leaves u) (u .identity .held) (λ k. search) (λ k. alone u))
 
-battery-alone : (level : ℕ) (u : TagUnit) → Leaves u (own (battery level) u)
+battery-alone : (level : ℕ) (u : TagUnit) → Leaves u (charged level u)
+unfolding charged
 battery-alone level u = choose (Leaves u) (leb level highestBattery) (λ e. search) (λ e. alone u)
 
 showing-alone : (u : TagUnit) → Leaves u (showing u)
 unfolding showing
 showing-alone u = choose (Leaves u) (stands u) (λ e. alone u) (λ e. alone u)
 
--- The calls as nonce and keys see them: a read, a write, an account key, and those that leave all alone
-abbrev pub kind : Call → ℕ
-kind (read nonce room) = 0
-kind (write w room) = 1
-kind (accountKey key) = 2
-kind (button room) = 3
-kind (elapsed n room) = 3
-kind (frame room) = 3
-kind (pairing on) = 3
-kind (battery level) = 3
-kind (identifier r id) = 3
+-- The acts as nonce and keys see them: a read, a write, an account key, and those that leave all alone
+abbrev pub kind : Act → ℕ
+kind (calls (read nonce) room) = 0
+kind (calls (write w) room) = 1
+kind (calls (accountKey key) room) = 2
+kind (calls button room) = 3
+kind (calls frame room) = 3
+kind (calls (pairing on) room) = 3
+kind (calls (battery level) room) = 3
+kind (calls (identifier r id) room) = 3
+kind (waits n room) = 3
 
-pub data Sorted : Call → Type 0 where
-  aRead : {nonce : List ℕ} {room : ℕ} → Sorted (read nonce room)
-  aWrite : {w : List ℕ} {room : ℕ} → Sorted (write w room)
-  aKey : {key : List ℕ} → Sorted (accountKey key)
-  aside : {c : Call} → kind c ≡ 3 → ((u : TagUnit) → Leaves u (own c u)) → Sorted c
+pub data Sorted : Act → Type 0 where
+  aRead : {nonce : List ℕ} {room : ℕ} → Sorted (calls (read nonce) room)
+  aWrite : {w : Written} {room : ℕ} → Sorted (calls (write w) room)
+  aKey : {key : List ℕ} {room : ℕ} → Sorted (calls (accountKey key) room)
+  aside : {a : Act} → kind a ≡ 3 → ((u : TagUnit) → Leaves u (ownOf a u)) → Sorted a
 
-pub sorted : (c : Call) → Sorted c
-sorted (read nonce room) = aRead
-sorted (write w room) = aWrite
-sorted (accountKey key) = aKey
-sorted (button room) = aside refl (λ u. pressed-alone (u .sound) u)
-sorted (elapsed n room) = aside refl (tenths-alone n)
-sorted (frame room) = aside refl showing-alone
-sorted (pairing on) = aside {c = pairing on} refl (λ u. search)
-sorted (battery level) = aside refl (battery-alone level)
-sorted (identifier r id) = aside refl (lending-alone r id)
+pub sorted : (a : Act) → Sorted a
+unfolding own
+sorted (calls (read nonce) room) = aRead
+sorted (calls (write w) room) = aWrite
+sorted (calls (accountKey key) room) = aKey
+sorted (calls button room) = aside {a = calls button room} refl (λ u. pressed-alone (u .sound) u)
+sorted (calls frame room) = aside {a = calls frame room} refl showing-alone
+sorted (calls (pairing on) room) = aside {a = calls (pairing on) room} refl (λ u. search)
+sorted (calls (battery level) room) = aside {a = calls (battery level) room} refl (battery-alone level)
+sorted (calls (identifier r id) room) = aside {a = calls (identifier r id) room} refl (lending-alone r id)
+sorted (waits n room) = aside {a = waits n room} refl (tenths-alone n)
 
 -- What became of a lent account key
 pub data Keeping (key : List ℕ) (u : TagUnit) : Outcome → Type 0 where
   same : {r : Result} → Keeping key u (record { unit = u; result = r; ended = 0 })
-  more : length key ≡ accountKeyBytes → u .accounts .count < mostKeys → Keeping key u (giving [] (withAccounts (withNewKey key (u .accounts)) u))
+  more : length key ≡ accountKeySize → u .accounts .count < mostKeys → Keeping key u (giving [] (withAccounts (withNewKey key (u .accounts)) u))
 
 pub keeps : (key : List ℕ) (u : TagUnit) → Keeping key u (keeping key u)
 unfolding keeping
 keeps key u =
-    choose (Keeping key u) (not (eqb (length key) accountKeyBytes)) (λ e. same)
+    choose (Keeping key u) (not (eqb (length key) accountKeySize)) (λ e. same)
     (λ e.
     choose (Keeping key u) (among key (heldKeys (u .accounts))) (λ a. same)
     (λ a.
     choose (Keeping key u) (ltb (u .accounts .count) mostKeys)
-    (λ few. more (eqb-true (length key) accountKeyBytes (not-false _ e)) (ltb-true (u .accounts .count) mostKeys few))
+    (λ few. more (eqb-true (length key) accountKeySize (not-false _ e)) (ltb-true (u .accounts .count) mostKeys few))
     (λ few. same)))

@@ -1,5 +1,5 @@
 -- The identity key as it travels: what was decrypted with the owner key is encrypted to the same 32 bytes again. Each half by the round
--- trip of the cipher. Assumes nothing.
+-- trip of the cipher.
 use Prim.Native.Nat.{ℕ, _+_, _≤_}
 use mathlib.Core.Path.{_≡_, sym, ap₂, _∙_}
 use mathlib.Core.List.{List, _++_}

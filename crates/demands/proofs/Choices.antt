@@ -1,4 +1,4 @@
--- What holds of both things that a test chooses between holds of the one chosen; where it is chosen, the test is known. Assumes nothing.
+-- What holds of both things that a test chooses between holds of the one chosen; where it is chosen, the test is known.
 use mathlib.Core.Path.{_≡_, refl}
 use mathlib.Core.Bool.{Bool, true, false, cond}
 

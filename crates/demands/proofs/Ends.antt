@@ -1,10 +1,10 @@
 -- Demand 1 holds. Every call is a choice between answers and refusals, so its end is found choice by choice: a call other than a write ends
 -- with an answer or a plain refusal (`Plainly`), and the judgement of a write accepts or rejects with a number that spends (`Fair`).
--- Assumes nothing.
 use Prim.Native.Nat.{ℕ, zero, suc, _≤_}
 use mathlib.Core.Path.{_≡_, refl}
 use mathlib.Core.Bool.{Bool, true, false, cond}
 use mathlib.Core.List.{List, []}
+use mathlib.Core.Option.{Option, some, none}
 use native.Mathlib.Omega.{arith}
 use lib.Dec.{ltb}
 use lib.IntN.{ℤ}
@@ -14,23 +14,23 @@ use Rattle.wire.specs.Shape.{Request}
 use Rattle.unit.specs.declared.TagUnit.{TagUnit}
 use Rattle.unit.specs.declared.Settings.{Settings}
 use Rattle.unit.specs.declared.Sound.{Sound}
-use Rattle.unit.specs.Numbers.{answerRoom}
+use Rattle.sizes.specs.Sizes.{answerRoom}
 use Rattle.unit.specs.WellFormed.{settingsLegal, wellFormed}
-use Rattle.unit.specs.Change.{spent}
+use Rattle.unit.specs.Change.{spent, noUnit}
 use Rattle.unit.specs.Outcome.{Outcome, giving, refusing, formed, answering}
 use Rattle.unit.proofs.Lines.{lines}
-use Rattle.requests.specs.declared.Found.{Found}
-use Rattle.requests.specs.Judgement.{Judgement, accepts, rejects, withKey}
-use Rattle.requests.specs.Provisioning.{readParameters, readState, setKey, clearKey, recoverKey}
-use Rattle.requests.specs.Ringing.{ring, rung, readSound}
-use Rattle.requests.specs.Protecting.{protect, unprotect}
-use Rattle.requests.specs.Write.{byId, judged, settled, written}
-use Rattle.tag.specs.Calls as tag
-use Rattle.tag.specs.Calls.{newUnit, noUnit, issuing, pressed, keeping, lending, showing}
-use Rattle.tag.specs.Time.{tenths, afterTenth, endsNext, oneTenth, timeoutNotice}
-use Rattle.demands.specs.History.{Call, read, write, button, elapsed, pairing, battery, accountKey, identifier, frame, step}
-use Rattle.demands.specs.Ends.{Spending, Plain, Ended, OnlyWrites, Made, Demand1, notAuthenticated, invalidValue, noConsent, outOfRange, notWellFormed, wrongNonce, wrongAccountKey, noFrame, noRoom, withAnswer, refusedSpent, refusedSame, made, none}
+use Rattle.authentication.specs.Judgement.{Judgement, accepts, rejects, under, settled}
+use Rattle.provisioning.specs.Provisioning.{readParameters, readState, setKey, clearKey, recoverKey}
+use Rattle.ringing.specs.Ringing.{ring, rung, readSound}
+use Rattle.ringing.specs.Protecting.{protect, unprotect}
+use Rattle.requests.specs.Write.{byId, judged, written}
+use Rattle.time.specs.Time.{tenths, afterTenth, endsNext, oneTenth, timeoutNotice}
+use Rattle.tag.specs.Own.{issuing, pressed, charged, keeping, lending, showing}
+use Rattle.tag.specs.Calls.{newUnit, Written, read, write, button, pairing, battery, accountKey, identifier, frame, own, Act, calls, waits}
+use Rattle.demands.specs.History.{step}
+use Rattle.demands.specs.Ends.{Spending, Plain, Ended, OnlyWrites, Made, Demand1, notAuthenticated, invalidValue, noConsent, outOfRange, notWellFormed, wrongNonce, wrongAccountKey, noFrame, noRoom, withAnswer, refusedSpent, refusedSame, made, none as notMade}
 use Rattle.demands.proofs.Choices.{either}
+use Rattle.demands.proofs.Guards.{roomFor, ownOf, act-guarded}
 
 -- An answer, or a refusal that changes nothing
 data Plainly (u : TagUnit) (o : Outcome) : Type 0 where
@@ -67,33 +67,33 @@ unfolding pressed
 pressed-end Sound.Silent = gave _ _
 pressed-end (Sound.Ringing mask volume left) = gave _ _
 
--- A write, or a call that ends plainly, through the guards
-data Sort (u : TagUnit) : Call → Type 0 where
-  writes : (w : List ℕ) (room : ℕ) → Sort u (write w room)
-  other : {c : Call} → Plainly u (step c u) → Sort u c
+-- A write, or an act that ends plainly
+data Sort (u : TagUnit) : Act → Type 0 where
+  writing : (w : Written) (room : ℕ) → Sort u (calls (write w) room)
+  other : {a : Act} → Plainly u (ownOf a u) → Sort u a
 
-ruleset plainly = (other, gave, refusal, tenths-end, pressed-end, outOfRange, notWellFormed, wrongNonce, wrongAccountKey, noFrame, noRoom)
+ruleset plainly = (gave, refusal, tenths-end, pressed-end, outOfRange, notWellFormed, wrongNonce, wrongAccountKey, noFrame, noRoom)
 
-sort : (c : Call) (u : TagUnit) → Sort u c
-unfolding step tag.read tag.button tag.elapsed tag.setPairing tag.setBattery tag.addKey tag.lendIdentifier tag.frame answering formed issuing keeping lending showing
-sort (write w room) u = writes w room
-sort (read nonce room) u = search (plainly, either (Plainly u)) depth 10
-sort (button room) u = search (plainly, either (Plainly u)) depth 10
-sort (elapsed n room) u = search (plainly, either (Plainly u)) depth 10
-sort (pairing on) u = search (plainly, either (Plainly u)) depth 10
-sort (battery level) u = search (plainly, either (Plainly u)) depth 10
-sort (accountKey key) u = search (plainly, either (Plainly u)) depth 10
-sort (identifier r id) u = search (plainly, either (Plainly u)) depth 10
-sort (frame room) u = search (plainly, either (Plainly u)) depth 10
+sort : (a : Act) (u : TagUnit) → Sort u a
+unfolding own issuing charged keeping lending showing
+sort (calls (write w) room) u = writing w room
+sort (calls (read nonce) room) u = other {a = calls (read nonce) room} (search (plainly, either (Plainly u)) depth 10)
+sort (calls button room) u = other {a = calls button room} (pressed-end (u .sound))
+sort (calls (pairing on) room) u = other {a = calls (pairing on) room} (gave _ _)
+sort (calls (battery level) room) u = other {a = calls (battery level) room} (search (plainly, either (Plainly u)) depth 10)
+sort (calls (accountKey key) room) u = other {a = calls (accountKey key) room} (search (plainly, either (Plainly u)) depth 10)
+sort (calls (identifier r id) room) u = other {a = calls (identifier r id) room} (search (plainly, either (Plainly u)) depth 10)
+sort (calls frame room) u = other {a = calls frame room} (search (plainly, either (Plainly u)) depth 10)
+sort (waits n room) u = other {a = waits n room} (tenths-end n)
 
 -- A judgement that accepts, or rejects with a number that spends
 data Fair : Judgement → Type 0 where
   accepted : {v : TagUnit} {answer : List ℕ} → Fair (accepts v answer)
   rejected : {n : ℕ} → Spending n → Fair (rejects n)
 
-key-fair : (f : Found) (j : ℕ → Judgement) → ((p : ℕ) → Fair (j p)) → Fair (withKey f j)
-key-fair (Found.At p) j h = h p
-key-fair Found.Nowhere j h = rejected notAuthenticated
+key-fair : (o : Option (List ℕ)) (j : List ℕ → Judgement) → ((key : List ℕ) → Fair (j key)) → Fair (under o j)
+key-fair (some key) j h = h key
+key-fair none j h = rejected notAuthenticated
 
 ruleset fairly = (key-fair, accepted, rejected, notAuthenticated, invalidValue, noConsent)
 
@@ -117,15 +117,18 @@ module _ {u : TagUnit} (before : List ℕ) where
   fair-ended (accepted {answer = answer}) = withAnswer answer refl
   fair-ended (rejected {n = n} s) = refusedSpent n s refl refl refl
 
-  write-ended : (w : List ℕ) (room : ℕ) → Ended u (step (write w room) u) before
-  unfolding step tag.write answering formed written
-  write-ended w room =
+  -- through the guards
+  guards-ended : (room : ℕ) (own : Outcome) → Ended u own before → Ended u (answering room u own) before
+  unfolding answering formed
+  guards-ended room own h =
       either (λ o. Ended u o before) (ltb room answerRoom) (plain-ended (refusal noRoom))
-      (either (λ o. Ended u o before) (wellFormed u) (fair-ended (judged-fair u w)) (plain-ended (refusal notWellFormed)))
+      (either (λ o. Ended u o before) (wellFormed u) h (plain-ended (refusal notWellFormed)))
 
-sort-ended : {c : Call} (u : TagUnit) (before : List ℕ) → Sort u c → Ended u (step c u) before
-sort-ended u before (writes w room) = write-ended before w room
-sort-ended u before (other p) = plain-ended before p
+  sort-ended : {a : Act} → Sort u a → Ended u (step a u) before
+  unfolding own written
+  sort-ended {a} (writing w room) =
+      rw (act-guarded a u) (guards-ended (roomFor a) (ownOf a u) (fair-ended (judged-fair u (w .bytes))))
+  sort-ended {a} (other p) = rw (act-guarded a u) (guards-ended (roomFor a) (ownOf a u) (plain-ended p))
 
 -- No number is both plain and spending
 spending-high : {n : ℕ} → Spending n → 0x80 ≤ n
@@ -147,9 +150,14 @@ never-spends {n = n} (refused m p e k) s h =
     let same : m ≡ n = cc in
     omega (arith, spending-high s, plain-low p)
 
-sort-spends : {c : Call} (u : TagUnit) → Sort u c → OnlyWrites c u
-sort-spends u (writes w room) n s h = (w, room, refl)
-sort-spends u (other p) n s h = absurd (never-spends p s h)
+guards-plain : {u : TagUnit} (room : ℕ) (own : Outcome) → Plainly u own → Plainly u (answering room u own)
+unfolding answering formed
+guards-plain {u} room own h =
+    either (Plainly u) (ltb room answerRoom) (refusal noRoom) (either (Plainly u) (wellFormed u) h (refusal notWellFormed))
+
+sort-spends : {a : Act} (u : TagUnit) → Sort u a → OnlyWrites a u
+sort-spends u (writing w room) n s h = (w, room, refl)
+sort-spends {a} u (other p) n s h = absurd (never-spends {u = u} {o = step a u} (rw (act-guarded a u) (guards-plain (roomFor a) (ownOf a u) p)) s h)
 
 -- The record of a refused new unit has a battery above 3
 pub no-unit : wellFormed noUnit ≡ false
@@ -165,12 +173,12 @@ newUnits power components selectable = go (settingsLegal s) refl
 
     go : (b : Bool) → settingsLegal s ≡ b → Made power components selectable
     go true e = made (rw e) (rw e)
-    go false e = none (rw e) (rw e) no-unit
+    go false e = notMade (rw e) (rw e) no-unit
 
 pub demand1 : Demand1
 demand1 =
     record {
-      calls = λ c u before. sort-ended u before (sort c u);
-      spending = λ c u. sort-spends u (sort c u);
+      acts = λ a u before. sort-ended before (sort a u);
+      spending = λ a u. sort-spends u (sort a u);
       newUnits = newUnits;
     }

@@ -1,32 +1,36 @@
 -- The demand on recovery is not empty: the example's units one after another, each well formed by what keeps a unit so, and each call
--- served by the acceptance laws. Nothing is computed. Assumes nothing.
+-- served by the acceptance laws. Nothing is computed.
 use Prim.Native.Nat.{ℕ, zero, suc, _+_, _<_}
 use mathlib.Core.Path.{_≡_, refl, sym, ap, _∙_}
 use mathlib.Core.Bool.{true}
 use mathlib.Core.List.{List, [], _∷_, _++_}
+use mathlib.Core.Option.{some}
 use native.Mathlib.Omega.{arith}
-use lib.ListN.{length, getD, replicate}
-use lib.Seq.{take-all, drop-at}
+use lib.ListN.{length, getD, drop, replicate}
+use lib.Seq.{take-all, take-at, drop-at}
 use borrow.Author.Tests.{eq-eqb}
 use Rattle.laws.specs.Answer.{gives}
-use Rattle.laws.proofs.Same.{differ-same}
+use Rattle.laws.proofs.Same.{differ-same, same-refl}
 use Rattle.primitives.specs.Standards.{HMAC}
 use Rattle.primitives.proofs.Laws.{HMAC-byte}
-use Rattle.wire.specs.Signing.{version, tagBytes, requestTag, recoveryKey}
+use Rattle.sizes.specs.Sizes.{tagSize, answerRoom, fullConsent}
+use Rattle.wire.specs.Signing.{version, requestTag, recoveryKey}
 use Rattle.wire.specs.Shape.{parsed}
 use Rattle.wire.specs.KeyBlocks.{decryptedKey, encryptedKey}
 use Rattle.unit.specs.declared.TagUnit.{TagUnit}
 use Rattle.unit.specs.declared.Settings.{Settings}
 use Rattle.unit.specs.declared.Owner.{Owner}
-use Rattle.unit.specs.Numbers.{answerRoom, fullConsent}
-use Rattle.unit.specs.WellFormed.{settingsLegal, wellFormed, heldKeys, among}
-use Rattle.unit.specs.Change.{fresh, noAccounts, withAccounts, withNonce, withOwner, withConsent, withIdentifier, noIdentifier, silenced, spent}
+use Rattle.tables.specs.Rows.{rows, among, placeOf}
+use Rattle.unit.specs.declared.Accounts.{Accounts}
+use Rattle.unit.specs.WellFormed.{settingsLegal, wellFormed, heldKeys, ownerKey}
+use Rattle.unit.specs.Change.{fresh, noAccounts, withAccounts, withNewKey, withNonce, withOwner, withConsent, withIdentifier, noIdentifier, silenced, spent}
 use Rattle.unit.specs.Outcome.{Outcome, giving, formed}
 use Rattle.unit.proofs.Kept.{fresh-formed, issued-kept, spent-kept, accounts-kept, owner-kept, identity-kept, silenced-kept, unlent-kept, consent-kept}
-use Rattle.requests.specs.Provisioning.{rekeyed}
-use Rattle.tag.specs.Calls as tag
-use Rattle.demands.specs.History.{Call, read, write, button, accountKey, step, after, Bytes, AllOfBytes}
-use Rattle.demands.specs.Accepted.{built, answer}
+use Rattle.provisioning.specs.Provisioning.{rekeyed, ownedBy}
+use Rattle.tag.specs.Own.{keeping, pressed}
+use Rattle.tag.specs.Calls.{read, button, accountKey, own, guarded, call, Act, calls, act}
+use Rattle.demands.specs.History.{step, after, writes, Bytes, AllOfBytes}
+use Rattle.demands.specs.Accepted.{built, Open, First, answer, keyAt}
 use Rattle.demands.specs.Recovery.{Rekeys, rekeys, SetBy}
 use Rattle.demands.specs.Example.{sent, Given, provisioning, recovering, Shown, Example}
 use Rattle.demands.proofs.OfBytes.{bytes-take, bytes-cons, bytes-append}
@@ -41,7 +45,7 @@ use Rattle.demands.proofs.Recovery.{recovery}
 sent-bytes : (id : ℕ) (by nonce additional : List ℕ) → id < 256 → length additional < 128 → Bytes additional → Bytes (sent id by nonce additional)
 unfolding sent requestTag
 sent-bytes id by nonce additional low short b =
-    let size = tagBytes + length additional in
+    let size = tagSize + length additional in
     let text : List ℕ = version ∷ nonce ++ (id ∷ size ∷ additional) in
     let mark = requestTag by nonce id size additional in
     bytes-cons id (size ∷ mark ++ additional) low
@@ -52,15 +56,15 @@ none : Bytes []
 none i = omega arith
 
 -- Only writes rekey
-rekeys-kind : {c : Call} {u : TagUnit} → Rekeys c u → kind c ≡ 1
+rekeys-kind : {c : Act} {u : TagUnit} → Rekeys c u → kind c ≡ 1
 rekeys-kind (rekeys id s) = refl
 
 -- A history call by call
-data Runs : TagUnit → List Call → TagUnit → Type 0 where
+data Runs : TagUnit → List Act → TagUnit → Type 0 where
   done : {u : TagUnit} → Runs u [] u
-  next : {c : Call} {h : List Call} {u v w : TagUnit} → step c u .unit ≡ v → Runs v h w → Runs u (c ∷ h) w
+  next : {c : Act} {h : List Act} {u v w : TagUnit} → step c u .unit ≡ v → Runs v h w → Runs u (c ∷ h) w
 
-runs-after : {u v : TagUnit} {h : List Call} → Runs u h v → after h u ≡ v
+runs-after : {u v : TagUnit} {h : List Act} → Runs u h v → after h u ≡ v
 unfolding after
 runs-after done = refl
 runs-after (next {h = h} e r) = ap (after h) e ∙ runs-after r
@@ -71,13 +75,13 @@ unit-of o = o .unit
 -- The units after each call but the last, and the history in its three parts
 module _ (s : Settings) (key C n₁ n₂ n₃ : List ℕ) (g : Given s key C n₁ n₂ n₃) where
   abbrev keyed : TagUnit
-  keyed = withAccounts (tag.withNewKey key noAccounts) (fresh s)
+  keyed = withAccounts (withNewKey key noAccounts) (fresh s)
 
   abbrev first : TagUnit
   first = withNonce (issued n₁) keyed
 
   abbrev owned : TagUnit
-  owned = withOwner (Owner.Place 0) (spent first)
+  owned = withAccounts (withOwner (Owner.Place 0) (withNewKey key noAccounts)) (spent first)
 
   abbrev second : TagUnit
   second = withNonce (issued n₂) owned
@@ -91,37 +95,51 @@ module _ (s : Settings) (key C n₁ n₂ n₃ : List ℕ) (g : Given s key C n�
   abbrev third : TagUnit
   third = withNonce (issued n₃) consented
 
-  abbrev start : List Call
-  start = accountKey key ∷ read n₁ answerRoom ∷ write (sent 0x01 key n₁ []) answerRoom ∷ read n₂ answerRoom ∷ []
+  abbrev start : List Act
+  start = calls (accountKey key) 0 ∷ calls (read n₁) answerRoom ∷ writes (sent 0x01 key n₁ []) answerRoom ∷ calls (read n₂) answerRoom ∷ []
 
-  abbrev last : List Call
-  last = button answerRoom ∷ read n₃ answerRoom ∷ []
+  abbrev last : List Act
+  last = calls button answerRoom ∷ calls (read n₃) answerRoom ∷ []
 
-  abbrev end : List Call
-  end = write (sent 0x02 key n₂ C) answerRoom ∷ last
+  abbrev end : List Act
+  end = writes (sent 0x02 key n₂ C) answerRoom ∷ last
+
+  -- the one key held
+  held-key : heldKeys (withNewKey key noAccounts) ≡ key ∷ []
+  unfolding heldKeys rows
+  held-key = ap (λ (k : List ℕ). k ∷ []) (take-at key (drop (0 + length key) (replicate 80 0)) 16 (g .keyLong))
 
   -- Each call, and the unit after it well formed
   keyed-formed : wellFormed keyed ≡ true
-  unfolding tag.withNewKey heldKeys among
-  keyed-formed = accounts-kept (fresh s) (fresh-formed s (g .legal)) key (omega arith) refl
+  unfolding heldKeys rows among
+  keyed-formed = accounts-kept (fresh s) (fresh-formed s (g .legal)) key (g .keyLong) (omega arith) refl
 
-  adds : step (accountKey key) (fresh s) ≡ giving [] keyed
-  unfolding step tag.addKey tag.keeping formed heldKeys among
+  adds : step (calls (accountKey key) 0) (fresh s) ≡ giving [] keyed
+  unfolding act call guarded own keeping formed heldKeys rows among
   adds = rw (fresh-formed s (g .legal), eq-eqb (length key) 16 (g .keyLong))
 
   first-formed : wellFormed first ≡ true
   first-formed = issued-kept keyed keyed-formed true n₁
 
   owned-formed : wellFormed owned ≡ true
-  unfolding tag.withNewKey
   owned-formed = owner-kept (spent first) (spent-kept first first-formed) 0 (omega arith)
 
-  owns-it : step (write (sent 0x01 key n₁ []) answerRoom) first .unit ≡ owned
-  unfolding sent built tag.withNewKey heldKeys
+  owner-first : ownedBy key (withNewKey key noAccounts) ≡ withOwner (Owner.Place 0) (withNewKey key noAccounts)
+  unfolding placeOf
+  owner-first = rw (held-key, same-refl key)
+
+  owner-key : ownerKey (withOwner (Owner.Place 0) (withNewKey key noAccounts)) ≡ some key
+  unfolding ownerKey heldKeys
+  owner-key = ap (λ (l : List (List ℕ)). some (getD l 0 [])) held-key
+
+  owns-it : step (writes (sent 0x01 key n₁ []) answerRoom) first .unit ≡ owned
+  unfolding sent built
   owns-it =
-      ap (λ (o : Outcome). o .unit)
-      (accepted .stateRead first answerRoom 0 (record { formed = first-formed; live = refl; fits = omega arith })
-      (omega arith, λ i h. absurd (omega arith)))
+      let at-first : keyAt first 0 ≡ key = ap (λ (l : List (List ℕ)). getD l 0 []) held-key in
+      let ready : Open first answerRoom = record { formed = first-formed; live = refl; fits = omega arith } in
+      let only : First first 0x01 0 = (omega (arith, ap length held-key), λ i h. absurd (omega arith)) in
+      ap (λ (o : Outcome). o .unit) (rw at-first at (accepted .stateRead first answerRoom 0 ready only))
+      ∙ ap (λ (a : Accounts). withAccounts a (spent first)) owner-first
 
   second-formed : wellFormed second ≡ true
   second-formed = issued-kept owned owned-formed true n₂
@@ -132,14 +150,14 @@ module _ (s : Settings) (key C n₁ n₂ n₃ : List ℕ) (g : Given s key C n�
       let unlent = unlent-kept (silenced (spent second)) quiet in
       identity-kept (withIdentifier noIdentifier (silenced (spent second))) unlent (decryptedKey key C) refl
 
-  sets-it : step (write (sent 0x02 key n₂ C) answerRoom) second ≡ giving (answer key second 0x02 []) provisioned
-  unfolding sent built tag.withNewKey heldKeys
+  sets-it : step (writes (sent 0x02 key n₂ C) answerRoom) second ≡ giving (answer key second 0x02 []) provisioned
+  unfolding sent built
   sets-it =
-      accepted .keySet second answerRoom 0 C (record { formed = second-formed; live = refl; fits = omega arith }) refl refl (g .encryptedLong)
+      accepted .keySet second answerRoom key C (record { formed = second-formed; live = refl; fits = omega arith }) owner-key refl (g .encryptedLong)
 
-  presses : step (button answerRoom) provisioned ≡ giving [] consented
-  unfolding step tag.button tag.pressed
-  presses = opened provisioned answerRoom (tag.pressed (provisioned .sound) provisioned) provisioned-formed (omega arith)
+  presses : step (calls button answerRoom) provisioned ≡ giving [] consented
+  unfolding act call guarded own pressed
+  presses = opened provisioned answerRoom (pressed (provisioned .sound) provisioned) provisioned-formed (omega arith)
 
   consented-formed : wellFormed consented ≡ true
   consented-formed = consent-kept provisioned provisioned-formed fullConsent (omega arith)
@@ -162,35 +180,35 @@ module _ (s : Settings) (key C n₁ n₂ n₃ : List ℕ) (g : Given s key C n�
       (next (ap unit-of presses)
       (next (ap unit-of (reads consented answerRoom n₃ consented-formed (omega arith) (g .long₃) (differ-same n₂ n₃ (g .third)))) done)))
 
-  recovers-it : step (write (recovering key C n₃) answerRoom) third .result
+  recovers-it : step (writes (recovering key C n₃) answerRoom) third .result
       ≡ gives (answer (recoveryKey (decryptedKey key C)) third 0x04 (encryptedKey key (decryptedKey key C)))
-  unfolding sent built tag.withNewKey heldKeys
+  unfolding sent built
   recovers-it =
       ap (λ (o : Outcome). o .result)
-      (accepted .keyRecovered third answerRoom 0
-      (record { formed = issued-kept consented consented-formed true n₃; live = refl; fits = omega arith }) refl refl refl)
+      (accepted .keyRecovered third answerRoom key
+      (record { formed = issued-kept consented consented-formed true n₃; live = refl; fits = omega arith }) owner-key refl refl)
 
   all-bytes : AllOfBytes (provisioning key C n₁ n₂ n₃)
   all-bytes =
       let long = g .encryptedLong in
       let owning = sent-bytes 0x01 key n₁ [] (omega arith) (omega arith) none in
       let setting = sent-bytes 0x02 key n₂ C (omega arith) (omega arith) (g .encryptedBytes) in
-      (g .keyBytes, (g .bytes₁, (owning, (g .bytes₂, (setting, (tt, (g .bytes₃, tt)))))))
+      (g .keyBytes, (g .bytes₁, (owning, (g .bytes₂, (setting, (none, (g .bytes₃, tt)))))))
 
   set-by : SetBy (fresh s) (provisioning key C n₁ n₂ n₃) C
   unfolding parsed sent
   set-by =
       let long = g .encryptedLong in
-      let mark = requestTag key n₂ 0x02 (tagBytes + length C) C in
+      let mark = requestTag key n₂ 0x02 (tagSize + length C) C in
       record {
         before = start;
-        w = sent 0x02 key n₂ C;
+        w = record { bytes = sent 0x02 key n₂ C };
         room = answerRoom;
         later = last;
         split = refl;
         sets = refl;
         accepted = (answer key second 0x02 [], rw before (ap (λ (o : Outcome). o .result) sets-it));
-        began = sym (rw (drop-at mark C 8 (length-requestTag key n₂ 0x02 (tagBytes + length C) C)) (take-all 32 C (omega arith)));
+        began = sym (rw (drop-at mark C 8 (length-requestTag key n₂ 0x02 (tagSize + length C) C)) (take-all 32 C (omega arith)));
         kept = (λ r. omega (arith, rekeys-kind r), (λ r. omega (arith, rekeys-kind r), tt));
       }
 
@@ -198,13 +216,13 @@ module _ (s : Settings) (key C n₁ n₂ n₃ : List ℕ) (g : Given s key C n�
   unfolding parsed sent
   shown =
       let said = answer (recoveryKey (decryptedKey key C)) third 0x04 (encryptedKey key (decryptedKey key C)) in
-      let result : step (write (recovering key C n₃) answerRoom) (after (provisioning key C n₁ n₂ n₃) (fresh s)) .result ≡ gives said =
+      let result : step (writes (recovering key C n₃) answerRoom) (after (provisioning key C n₁ n₂ n₃) (fresh s)) .result ≡ gives said =
       rw all recovers-it in
       record {
         bytes = all-bytes;
         setBy = set-by;
         recovers = refl;
-        accepted = (said, result, recovery s (provisioning key C n₁ n₂ n₃) C (recovering key C n₃) answerRoom said all-bytes set-by refl result);
+        accepted = (said, result, recovery s (provisioning key C n₁ n₂ n₃) C (record { bytes = recovering key C n₃ }) answerRoom said all-bytes set-by refl result);
       }
 
 replicate-bytes : (n x : ℕ) → x < 256 → Bytes (replicate n x)

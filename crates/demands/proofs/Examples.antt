@@ -1,10 +1,10 @@
--- The edges hold: each row of the table is computed. Assumes nothing.
+-- The edges hold: each row of the table is computed.
 use mathlib.Core.Path.{refl}
 use Rattle.unit.specs.WellFormed.{settingsLegal}
 use Rattle.laws.specs.Bytes.{number, numberAfter, bigEndian}
-use Rattle.requests.specs.Ringing.{ring, rung, ringLegal}
+use Rattle.ringing.specs.Ringing.{ring, rung, ringLegal}
 use Rattle.tag.specs.Calls.{newUnit}
-use Rattle.tag.specs.Time.{clockOn, ringOn, oneTenth, afterTenth, tenths}
+use Rattle.time.specs.Time.{clockOn, ringOn, oneTenth, afterTenth, tenths}
 use Rattle.demands.specs.Examples.{table, Edges}
 
 pub edges : Edges

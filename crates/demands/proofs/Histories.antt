@@ -1,10 +1,11 @@
--- Histories in two parts: what comes after the one and then the other. Assumes nothing.
+-- Histories in two parts: what comes after the one and then the other.
 use mathlib.Core.Path.{_≡_, refl}
 use mathlib.Core.List.{List, [], _∷_, _++_}
 use Rattle.unit.specs.declared.TagUnit.{TagUnit}
-use Rattle.demands.specs.History.{Call, step, after}
+use Rattle.tag.specs.Calls.{Act}
+use Rattle.demands.specs.History.{step, after}
 
-pub after-append : (g h : List Call) (u : TagUnit) → after (g ++ h) u ≡ after h (after g u)
+pub after-append : (g h : List Act) (u : TagUnit) → after (g ++ h) u ≡ after h (after g u)
 unfolding after
 after-append [] h u = refl
 after-append (c ∷ g) h u = after-append g h (step c u .unit)

@@ -1,5 +1,5 @@
 -- How a write of ID, length, eight tag bytes and additional data is judged: its parts are those, and where the unit takes writes, the
--- length is legal and a needed identity key is there, it comes to the judgement by its ID. Assumes nothing.
+-- length is legal and a needed identity key is there, it comes to the judgement by its ID.
 use Prim.Native.Nat.{ℕ, _+_, _≤_}
 use mathlib.Core.Path.{_≡_, _∙_}
 use mathlib.Core.Bool.{true, _||_}
@@ -13,17 +13,16 @@ use Rattle.laws.proofs.Flags.{both}
 use Rattle.laws.proofs.Same.{same-refl}
 use Rattle.primitives.specs.Standards.{SHA256, HMAC}
 use Rattle.primitives.proofs.Laws.{length-SHA256, length-HMAC}
-use Rattle.wire.specs.Signing.{version, tagBytes, requestTag, answerTag, keyProof}
+use Rattle.sizes.specs.Sizes.{tagSize, answerRoom}
+use Rattle.wire.specs.Signing.{version, requestTag, answerTag, keyProof}
 use Rattle.wire.specs.Shape.{Request, parsed, sizeLegal, shapeLegal}
 use Rattle.unit.specs.declared.TagUnit.{TagUnit}
-use Rattle.unit.specs.Numbers.{answerRoom}
 use Rattle.unit.specs.WellFormed.{wellFormed}
 use Rattle.unit.specs.Change.{spent}
 use Rattle.unit.specs.Outcome.{Outcome, formed, answering}
-use Rattle.requests.specs.Judgement.{accepts, tagged}
-use Rattle.requests.specs.Write.{byId, judged, written}
-use Rattle.tag.specs.Calls as tag
-use Rattle.demands.specs.History.{step}
+use Rattle.authentication.specs.Judgement.{accepts, tagged}
+use Rattle.requests.specs.Write.{byId, needsKey, judged, written}
+use Rattle.tag.specs.Calls.{own, guarded, call, act}
 use Rattle.demands.specs.Accepted.{Open, Serves}
 
 -- tags and proofs have eight bytes
@@ -39,7 +38,7 @@ length-requestTag key nonce id size additional =
 pub length-answerTag : (key nonce : List ℕ) (id : ℕ) («data» : List ℕ) → length (answerTag key nonce id «data») ≡ 8
 unfolding answerTag
 length-answerTag key nonce id «data» =
-    let text : List ℕ = version ∷ nonce ++ (id ∷ (tagBytes + length «data») ∷ «data» ++ (0x01 ∷ [])) in
+    let text : List ℕ = version ∷ nonce ++ (id ∷ (tagSize + length «data») ∷ «data» ++ (0x01 ∷ [])) in
     eight-first (HMAC key text) (length-HMAC key text)
 
 pub length-keyProof : (identity nonce : List ℕ) → length (keyProof identity nonce) ≡ 8
@@ -53,7 +52,7 @@ requestOf id size mark additional = record { id = id; size = size; tag = mark; a
 abbrev pub bytesOf : ℕ → ℕ → List ℕ → List ℕ → List ℕ
 bytesOf id size mark additional = id ∷ size ∷ mark ++ additional
 
-module _ (id size : ℕ) (mark additional : List ℕ) (eight : length mark ≡ 8) (sized : tagBytes + length additional ≡ size) where
+module _ (id size : ℕ) (mark additional : List ℕ) (eight : length mark ≡ 8) (sized : tagSize + length additional ≡ size) where
   pub parts : parsed (bytesOf id size mark additional) ≡ requestOf id size mark additional
   unfolding parsed
   parts = rw (take-at mark additional 8 eight, drop-at mark additional 8 eight)
@@ -71,10 +70,10 @@ unfolding answering formed
 opened u room o right fits = rw (le-ltb room answerRoom fits, right)
 
 pub accepted-as : {u : TagUnit} {room : ℕ} {after : TagUnit} {answer : List ℕ} (id size : ℕ) (mark additional : List ℕ) → length mark ≡ 8
-    → tagBytes + length additional ≡ size → Open u room → sizeLegal id size ≡ true → (ltb id 0x03 || u .identity .held) ≡ true
+    → tagSize + length additional ≡ size → Open u room → sizeLegal id size ≡ true → (ltb id needsKey || u .identity .held) ≡ true
     → byId (spent u) (requestOf id size mark additional) ≡ accepts after answer
     → Serves (bytesOf id size mark additional) room u answer after
-unfolding step tag.write written judged
+unfolding act call guarded own written judged
 accepted-as {u} {room} id size mark additional eight sized ready legal there accepted =
     opened u room (written u (bytesOf id size mark additional)) (ready .formed) (ready .fits)
     ∙ rw (shape id size mark additional eight sized legal, ready .live, parts id size mark additional eight sized, there, accepted)

@@ -1,84 +1,103 @@
--- Every account key that a unit holds after a history of bytes is sixteen bytes: a key comes in only by a call that is lent sixteen, and
--- goes behind the others, within the five places. Assumes nothing.
-use Prim.Native.Nat.{ℕ, _+_, _<_}
-use mathlib.Core.Path.{_≡_, refl, _∙_}
+-- Every account key that a unit holds after a history of bytes is sixteen bytes: the table of keys has only bytes in it, since a key comes in
+-- only by a call that is lent bytes; and a well-formed unit's keys are sixteen each.
+use Prim.Native.Nat.{ℕ, zero, suc, _+_, _*_, _<_}
+use mathlib.Core.Path.{_≡_, refl, sym, ap, _∙_}
+use mathlib.Core.Bool.{true}
 use mathlib.Core.List.{List, [], _∷_}
+use mathlib.Core.Option.{some, none}
 use native.Mathlib.Omega.{arith}
-use native.Mathlib.Decide.{decLt}
-use lib.ListN.{length, getD, length-set}
+use lib.ListN.{length, getD, take, drop, replicate}
+use borrow.Author.Tests.{ltb-true}
+use Rattle.sizes.specs.Sizes.{accountKeySize}
+use Rattle.octets.specs.Put.{pasted}
+use Rattle.tables.specs.Rows.{rows}
+use Rattle.tables.proofs.Rows.{row-at}
 use Rattle.unit.specs.declared.TagUnit.{TagUnit}
 use Rattle.unit.specs.declared.Settings.{Settings}
 use Rattle.unit.specs.declared.Accounts.{Accounts}
-use Rattle.unit.specs.Numbers.{mostKeys, accountKeyBytes}
-use Rattle.unit.specs.WellFormed.{heldKeys}
-use Rattle.unit.specs.Change.{fresh, noAccounts}
+use Rattle.unit.specs.declared.Owner.{Owner}
+use Rattle.unit.specs.WellFormed.{wellFormed, heldKeys, rowOf, ownerKey, ownerLegal, placeLegal}
+use Rattle.unit.specs.Change.{fresh, noAccounts, withNewKey}
 use Rattle.unit.specs.Outcome.{Outcome}
-use Rattle.requests.specs.Provisioning.{cleared}
-use Rattle.tag.specs.Calls.{nonceFits, issuing, withNewKey}
-use Rattle.demands.specs.History.{Call, step, after, Bytes, OfBytes, AllOfBytes}
-use Rattle.demands.proofs.Guards.{own, met, Met, barred, passed}
-use Rattle.demands.proofs.Ruled.{choose, set, clear, recovered, other, Written, turned, served, ends-written}
+use Rattle.unit.proofs.Lines.{lines, AccountsLines, key-length, held-count}
+use Rattle.provisioning.specs.Provisioning.{cleared}
+use Rattle.tag.specs.Own.{nonceFits, issuing}
+use Rattle.tag.specs.Calls.{own, Act, calls}
+use Rattle.demands.specs.History.{step, after, Bytes, OfBytes, AllOfBytes}
+use Rattle.demands.proofs.Guards.{ownOf, met, Met, barred, passed}
+use Rattle.demands.proofs.OfBytes.{bytes-take, bytes-drop, bytes-cons, bytes-append}
+use Rattle.demands.proofs.Ruled.{choose, set, clear, recovered, other, Ended, turned, served, ends-written}
 use Rattle.demands.proofs.Beside.{Sorted, aRead, aWrite, aKey, aside, sorted, Keeping, same, more, keeps}
-use Rattle.demands.proofs.KeyKept.{added-before, added-last}
 
 -- a key of sixteen bytes
 pub record Sixteen (key : List ℕ) : Type 0 where
-  pub long : length key ≡ accountKeyBytes
+  pub long : length key ≡ accountKeySize
   pub bytes : Bytes key
 
--- five places, and a key of sixteen bytes at each that is taken
-pub record Filled (a : Accounts) : Type 0 where
-  pub places : length (a .keys) ≡ mostKeys
-  pub keys : (i : ℕ) → i < a .count → Sixteen (getD (heldKeys a) i [])
+-- The table has only bytes in it
+abbrev Filled : TagUnit → Type 0
+Filled u = Bytes (u .accounts .keys)
 
-none-filled : Filled noAccounts
-none-filled = record { places = refl; keys = λ i h. absurd (omega arith) }
+zeros : (n : ℕ) → Bytes (replicate n 0)
+zeros zero i = omega arith
+zeros (suc n) i = bytes-cons 0 (replicate n 0) (omega arith) (zeros n) i
 
-added-filled : (key : List ℕ) (a : Accounts) → Sixteen key → a .count < mostKeys → Filled a → Filled (withNewKey key a)
-unfolding withNewKey
-added-filled key a k few s =
-    record { places = length-set (a .keys) (a .count) (record { bytes = key }) ∙ s .places; keys = λ i h. go i h (decLt i (a .count)) }
-  where
-    go : (i : ℕ) → i < a .count + 1 → Dec (i < a .count) → Sixteen (getD (heldKeys (withNewKey key a)) i [])
-    go i h (yes l) = rw (added-before key a i l) (s .keys i l)
-    go i h (no l) =
-        let last : i ≡ a .count = omega arith in
-        let five = s .places in
-        rw (last, added-last key a (omega arith)) k
+pasted-bytes : (before : List ℕ) (at : ℕ) (bytes : List ℕ) → Bytes before → Bytes bytes → Bytes (pasted before at bytes)
+pasted-bytes before at bytes p q =
+    bytes-append (take at before) _ (bytes-take at before p) (bytes-append bytes _ q (bytes-drop (at + length bytes) before p))
 
-keeping-filled : {key : List ℕ} {u : TagUnit} {o : Outcome} → Keeping key u o → Bytes key → Filled (u .accounts) → Filled (o .unit .accounts)
+keeping-filled : {key : List ℕ} {u : TagUnit} {o : Outcome} → Keeping key u o → Bytes key → Filled u → Filled (o .unit)
 keeping-filled same b s = s
-keeping-filled {key} {u} (more n few) b s = added-filled key (u .accounts) (record { long = n; bytes = b }) few s
+keeping-filled {key} {u} (more n few) b s = pasted-bytes (u .accounts .keys) (u .accounts .count * accountKeySize) key s b
 
-read-filled : (nonce : List ℕ) (u : TagUnit) → Filled (u .accounts) → Filled (issuing nonce u .unit .accounts)
+read-filled : (nonce : List ℕ) (u : TagUnit) → Filled u → Filled (issuing nonce u .unit)
 unfolding issuing
-read-filled nonce u s = choose (λ (o : Outcome). Filled (o .unit .accounts)) (nonceFits u nonce) (λ e. s) (λ e. s)
+read-filled nonce u s = choose (λ (o : Outcome). Filled (o .unit)) (nonceFits u nonce) (λ e. s) (λ e. s)
 
-written-filled : {u : TagUnit} {w : List ℕ} {o : Outcome} → Written u w o → Filled (u .accounts) → Filled (o .unit .accounts)
+written-filled : {u : TagUnit} {w : List ℕ} {o : Outcome} → Ended u w o → Filled u → Filled (o .unit)
 unfolding cleared
 written-filled (turned n) s = s
-written-filled (served sh l (set p e o)) s = s
-written-filled (served sh l (clear e)) s = none-filled
-written-filled (served sh l (recovered p e o)) s = s
-written-filled (served sh l (other k a)) s = rw (a .accounts) s
+written-filled (served sh l (set key e o)) s = s
+written-filled (served sh l (clear e)) s = zeros 80
+written-filled (served sh l (recovered key e o)) s = s
+written-filled (served sh l (other k a)) s = rw (a .table) s
 
-own-filled : {c : Call} → Sorted c → (u : TagUnit) → OfBytes c → Filled (u .accounts) → Filled (own c u .unit .accounts)
+own-filled : {a : Act} → Sorted a → (u : TagUnit) → OfBytes a → Filled u → Filled (ownOf a u .unit)
+unfolding own
 own-filled (aRead {nonce}) u b s = read-filled nonce u s
-own-filled (aWrite {w}) u b s = written-filled (ends-written u w) s
+own-filled (aWrite {w}) u b s = written-filled (ends-written u (w .bytes)) s
 own-filled (aKey {key}) u b s = keeping-filled (keeps key u) b s
-own-filled (aside k leaves) u b s = rw (leaves u .accounts) s
+own-filled (aside k leaves) u b s = rw (leaves u .table) s
 
-step-filled : (c : Call) (u : TagUnit) → OfBytes c → Filled (u .accounts) → Filled (step c u .unit .accounts)
-step-filled c u b s = go (met c u)
+step-filled : (a : Act) (u : TagUnit) → OfBytes a → Filled u → Filled (step a u .unit)
+step-filled a u b s = go (met a u)
   where
-    go : Met c u → Filled (step c u .unit .accounts)
+    go : Met a u → Filled (step a u .unit)
     go (barred n e bars) = rw e s
-    go (passed fits formed e) = rw e (own-filled (sorted c) u b s)
+    go (passed fits formed e) = rw e (own-filled (sorted a) u b s)
 
-history-filled : (h : List Call) (u : TagUnit) → AllOfBytes h → Filled (u .accounts) → Filled (after h u .accounts)
+history-filled : (h : List Act) (u : TagUnit) → AllOfBytes h → Filled u → Filled (after h u)
 unfolding after
 history-filled [] u b s = s
-history-filled (c ∷ h) u b s = history-filled h (step c u .unit) (b .1) (step-filled c u (b .0) s)
+history-filled (a ∷ h) u b s = history-filled h (step a u .unit) (b .1) (step-filled a u (b .0) s)
 
-pub from-fresh : (s : Settings) (h : List Call) → AllOfBytes h → Filled (after h (fresh s) .accounts)
-from-fresh s h b = history-filled h (fresh s) b none-filled
+-- The owner's key of a well-formed unit whose table has only bytes in it
+row-sixteen : (o : Owner) (a : Accounts) → AccountsLines a → Bytes (a .keys) → placeLegal o (a .count) ≡ true → (key : List ℕ)
+    → rowOf o (heldKeys a) ≡ some key → Sixteen key
+unfolding heldKeys
+row-sixteen Owner.Nobody a l b legal key e = let z : _≡_ {A = ℕ} 0 1 = cc in absurd (omega arith)
+row-sixteen (Owner.Place p) a l b legal key e =
+    let below : p < a .count = ltb-true p (a .count) legal in
+    let is : getD (heldKeys a) p [] ≡ key = cc in
+    let row = row-at accountKeySize (a .count) (a .keys) p below in
+    record {
+      long = ap length (sym is) ∙ key-length a p l (omega (arith, held-count a));
+      bytes = rw (sym is ∙ row) (bytes-take accountKeySize (drop (p * accountKeySize) (a .keys)) (bytes-drop (p * accountKeySize) (a .keys) b));
+    }
+
+pub owner-sixteen : (s : Settings) (h : List Act) → AllOfBytes h → wellFormed (after h (fresh s)) ≡ true → (key : List ℕ)
+    → ownerKey (after h (fresh s) .accounts) ≡ some key → Sixteen key
+unfolding ownerKey ownerLegal
+owner-sixteen s h b w key e =
+    let u = after h (fresh s) in
+    row-sixteen (u .accounts .owner) (u .accounts) (lines u w .accounts) (history-filled h (fresh s) b (zeros 80)) (lines u w .owner) key e

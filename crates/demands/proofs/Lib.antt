@@ -1,8 +1,12 @@
 pub mod Choices
 pub mod Room
 pub mod Examples
+pub mod Guards
 pub mod Ends
 pub mod Tenths
+pub mod Histories
+pub mod OfBytes
+pub mod HeldKeys
 pub mod Writes
 pub mod Formed
 pub mod Passing
@@ -10,12 +14,9 @@ pub mod Course
 pub mod Time
 pub mod Judging
 pub mod Accepted
-pub mod Guards
 pub mod Ruled
 pub mod Beside
 pub mod Noncing
-pub mod OfBytes
-pub mod Histories
 pub mod Nonces
 pub mod KeyKept
 pub mod KeyBytes

@@ -1,5 +1,5 @@
 -- What a call does to the nonce, for all nine kinds: a successful read makes its own live, a write that passes 6 and 2 leaves none live,
--- and every other call, refused ones too, leaves it as it is. Assumes nothing.
+-- and every other call, refused ones too, leaves it as it is.
 use Prim.Native.Nat.{ℕ, _≤_}
 use mathlib.Core.Path.{_≡_, refl, ap, _∙_}
 use mathlib.Core.Bool.{true, false}
@@ -11,54 +11,55 @@ use Rattle.wire.specs.Signing.{version}
 use Rattle.wire.specs.Shape.{Request}
 use Rattle.unit.specs.declared.TagUnit.{TagUnit}
 use Rattle.unit.specs.declared.Nonce.{Nonce}
-use Rattle.unit.specs.Numbers.{answerRoom}
+use Rattle.sizes.specs.Sizes.{answerRoom}
 use Rattle.unit.specs.Change.{withNonce}
 use Rattle.unit.specs.WellFormed.{wellFormed}
 use Rattle.unit.specs.Outcome.{Outcome, giving, refusing}
-use Rattle.requests.specs.Judgement.{accepts}
-use Rattle.requests.specs.Provisioning.{cleared}
-use Rattle.tag.specs.Calls.{nonceFits, issuing}
-use Rattle.demands.specs.History.{Call, read, write, accountKey, step}
+use Rattle.authentication.specs.Judgement.{accepts}
+use Rattle.provisioning.specs.Provisioning.{cleared}
+use Rattle.tag.specs.Own.{nonceFits, issuing}
+use Rattle.tag.specs.Calls.{Written, read, write, accountKey, own, Act, calls}
+use Rattle.demands.specs.History.{step}
 use Rattle.demands.specs.Nonces.{Succeeds, Passes, passes, Issues, issues}
-use Rattle.demands.proofs.Guards.{roomFor, own, met, Met, barred, passed, not-both}
-use Rattle.demands.proofs.Ruled.{Did, set, clear, recovered, other, Written, turned, served, ends-written}
+use Rattle.demands.proofs.Guards.{roomFor, ownOf, met, Met, barred, passed, not-both}
+use Rattle.demands.proofs.Ruled.{Did, set, clear, recovered, other, Ended, turned, served, ends-written}
 use Rattle.demands.proofs.Beside.{kind, Sorted, aRead, aWrite, aKey, aside, sorted, Keeping, same, more, keeps}
 
 abbrev pub issued : List ℕ → Nonce
 issued nonce = record { held = true; live = true; bytes = nonce }
 
-pub data Noncing : Call → TagUnit → Type 0 where
-  issue : {nonce : List ℕ} {room : ℕ} {u : TagUnit} → Succeeds (read nonce room) u → step (read nonce room) u .unit .nonce ≡ issued nonce
-      → Noncing (read nonce room) u
-  spend : {w : List ℕ} {room : ℕ} {u : TagUnit} → Passes (write w room) u → step (write w room) u .unit .nonce .live ≡ false
-      → Noncing (write w room) u
-  keep : {c : Call} {u : TagUnit} → (Issues c u → ⊥) → (Passes c u → ⊥) → step c u .unit .nonce ≡ u .nonce → Noncing c u
+pub data Noncing : Act → TagUnit → Type 0 where
+  issue : {nonce : List ℕ} {room : ℕ} {u : TagUnit} → Succeeds (calls (read nonce) room) u → step (calls (read nonce) room) u .unit .nonce ≡ issued nonce
+      → Noncing (calls (read nonce) room) u
+  spend : {w : Written} {room : ℕ} {u : TagUnit} → Passes (calls (write w) room) u → step (calls (write w) room) u .unit .nonce .live ≡ false
+      → Noncing (calls (write w) room) u
+  keep : {c : Act} {u : TagUnit} → (Issues c u → ⊥) → (Passes c u → ⊥) → step c u .unit .nonce ≡ u .nonce → Noncing c u
 
-issues-succeeds : {c : Call} {u : TagUnit} → Issues c u → Succeeds c u
+issues-succeeds : {c : Act} {u : TagUnit} → Issues c u → Succeeds c u
 issues-succeeds (issues s) = s
 
-passes-guards : {c : Call} {u : TagUnit} → Passes c u → (answerRoom ≤ roomFor c) × (wellFormed u ≡ true)
+passes-guards : {c : Act} {u : TagUnit} → Passes c u → (answerRoom ≤ roomFor c) × (wellFormed u ≡ true)
 passes-guards (passes fits formed) = (fits, formed)
 
-issues-kind : {c : Call} {u : TagUnit} → Issues c u → kind c ≡ 0
+issues-kind : {c : Act} {u : TagUnit} → Issues c u → kind c ≡ 0
 issues-kind (issues s) = refl
 
-passes-kind : {c : Call} {u : TagUnit} → Passes c u → kind c ≡ 1
+passes-kind : {c : Act} {u : TagUnit} → Passes c u → kind c ≡ 1
 passes-kind (passes fits formed) = refl
 
 -- A call that is barred leaves the nonce
-barred-keeps : (c : Call) (u : TagUnit) (n : ℕ) → step c u ≡ refusing n u → (answerRoom ≤ roomFor c → wellFormed u ≡ true → ⊥) → Noncing c u
+barred-keeps : (c : Act) (u : TagUnit) (n : ℕ) → step c u ≡ refusing n u → (answerRoom ≤ roomFor c → wellFormed u ≡ true → ⊥) → Noncing c u
 barred-keeps c u n e bars =
     keep (λ i. not-both c u e (issues-succeeds i)) (λ p. bars (passes-guards p .0) (passes-guards p .1)) (ap (λ (o : Outcome). o .unit .nonce) e)
 
 did-nonce : {u v : TagUnit} {q : Request} {answer : List ℕ} → Did u q (accepts v answer) → v .nonce ≡ u .nonce
 unfolding cleared
-did-nonce (set p e o) = refl
+did-nonce (set key e o) = refl
 did-nonce (clear e) = refl
-did-nonce (recovered p e o) = refl
+did-nonce (recovered key e o) = refl
 did-nonce (other k a) = a .nonce
 
-written-spends : {u : TagUnit} {w : List ℕ} {o : Outcome} → Written u w o → o .unit .nonce .live ≡ false
+written-spends : {u : TagUnit} {w : List ℕ} {o : Outcome} → Ended u w o → o .unit .nonce .live ≡ false
 written-spends (turned n) = refl
 written-spends (served s l did) = ap (λ (n : Nonce). n .live) (did-nonce did)
 
@@ -67,7 +68,7 @@ kept-nonce same = refl
 kept-nonce (more n few) = refl
 
 -- A call of another kind
-untouched : (c : Call) (u : TagUnit) → 2 ≤ kind c → own c u .unit .nonce ≡ u .nonce → Noncing c u
+untouched : (c : Act) (u : TagUnit) → 2 ≤ kind c → ownOf c u .unit .nonce ≡ u .nonce → Noncing c u
 untouched c u t kept = go (met c u)
   where
     go : Met c u → Noncing c u
@@ -75,12 +76,12 @@ untouched c u t kept = go (met c u)
     go (passed fits formed e) =
         keep (λ (i : Issues c u). omega (arith, issues-kind i)) (λ (p : Passes c u). omega (arith, passes-kind p)) (ap (λ (o : Outcome). o .unit .nonce) e ∙ kept)
 
-reading : (nonce : List ℕ) (room : ℕ) (u : TagUnit) → Noncing (read nonce room) u
-unfolding issuing
-reading nonce room u = go (met (read nonce room) u)
+reading : (nonce : List ℕ) (room : ℕ) (u : TagUnit) → Noncing (calls (read nonce) room) u
+unfolding issuing own
+reading nonce room u = go (met (calls (read nonce) room) u)
   where
-    c : Call
-    c = read nonce room
+    c : Act
+    c = calls (read nonce) room
 
     fits-or-not : (nonceFits u nonce ≡ true) ⊎ (nonceFits u nonce ≡ false) → step c u ≡ issuing nonce u → Noncing c u
     fits-or-not (inl f) e =
@@ -94,18 +95,20 @@ reading nonce room u = go (met (read nonce room) u)
     go (barred n e bars) = barred-keeps c u n e bars
     go (passed fits formed e) = fits-or-not (true-or-false (nonceFits u nonce)) e
 
-writing : (w : List ℕ) (room : ℕ) (u : TagUnit) → Noncing (write w room) u
-writing w room u = go (met (write w room) u)
+writing : (w : Written) (room : ℕ) (u : TagUnit) → Noncing (calls (write w) room) u
+unfolding own
+writing w room u = go (met (calls (write w) room) u)
   where
-    go : Met (write w room) u → Noncing (write w room) u
-    go (barred n e bars) = barred-keeps (write w room) u n e bars
-    go (passed fits formed e) = spend (passes fits formed) (ap (λ (o : Outcome). o .unit .nonce .live) e ∙ written-spends (ends-written u w))
+    go : Met (calls (write w) room) u → Noncing (calls (write w) room) u
+    go (barred n e bars) = barred-keeps (calls (write w) room) u n e bars
+    go (passed fits formed e) = spend (passes fits formed) (ap (λ (o : Outcome). o .unit .nonce .live) e ∙ written-spends (ends-written u (w .bytes)))
 
-by-kind : {c : Call} → Sorted c → (u : TagUnit) → Noncing c u
+by-kind : {c : Act} → Sorted c → (u : TagUnit) → Noncing c u
+unfolding own
 by-kind (aRead {nonce} {room}) u = reading nonce room u
 by-kind (aWrite {w} {room}) u = writing w room u
-by-kind (aKey {key}) u = untouched (accountKey key) u (omega arith) (kept-nonce (keeps key u))
-by-kind (aside {c} k leaves) u = untouched c u (omega arith) (leaves u .nonce)
+by-kind (aKey {key} {room}) u = untouched (calls (accountKey key) room) u (omega arith) (kept-nonce (keeps key u))
+by-kind (aside {a} k leaves) u = untouched a u (omega arith) (leaves u .nonce)
 
-pub noncing : (c : Call) (u : TagUnit) → Noncing c u
+pub noncing : (c : Act) (u : TagUnit) → Noncing c u
 noncing c u = by-kind (sorted c) u

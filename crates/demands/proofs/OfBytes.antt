@@ -1,11 +1,12 @@
--- Lists of bytes stay so when they are cut and joined. Assumes nothing.
+-- Lists of bytes stay so when they are cut and joined.
 use Prim.Native.Nat.{ℕ, zero, suc, _+_, _≤_, _<_}
 use mathlib.Core.List.{List, [], _∷_, _++_}
 use native.Mathlib.Omega.{arith}
 use native.Mathlib.Decide.{decLt}
 use lib.ListN.{length, getD, take, drop, length-take, List·getD-eq-default}
 use lib.Seq.{getD-take, getD-drop}
-use Rattle.demands.specs.History.{Call, Bytes, AllOfBytes}
+use Rattle.tag.specs.Calls.{Act}
+use Rattle.demands.specs.History.{Bytes, AllOfBytes}
 
 pub bytes-drop : (n : ℕ) (l : List ℕ) → Bytes l → Bytes (drop n l)
 bytes-drop n l b i = rw (getD-drop n l i 0) (b (n + i))
@@ -29,7 +30,7 @@ bytes-append (x ∷ a) b p q zero = p 0
 bytes-append (x ∷ a) b p q (suc i) = bytes-append a b (λ j. p (suc j)) q i
 
 -- Histories of bytes, in two parts
-pub split-bytes : (g h : List Call) → AllOfBytes (g ++ h) → AllOfBytes g × AllOfBytes h
+pub split-bytes : (g h : List Act) → AllOfBytes (g ++ h) → AllOfBytes g × AllOfBytes h
 split-bytes [] h b = (tt, b)
 split-bytes (c ∷ g) h b =
     let rest = split-bytes g h (b .1) in

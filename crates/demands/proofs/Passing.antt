@@ -1,6 +1,6 @@
 -- The tag's time is the plain tag's: any number of tenths in one call come to what as many single tenths come to. By induction on the
 -- tenths. A call ends at most one ring, since a ring that has ended stays silent: so what the call reports is all that the plain tag
--- notified. Assumes nothing.
+-- notified.
 use Prim.Native.Nat.{ℕ, zero, suc, _+_}
 use mathlib.Core.Path.{_≡_, refl, sym, ap, _∙_}
 use mathlib.Core.Bool.{Bool, true, false, cond, false≢true}
@@ -11,9 +11,9 @@ use Rattle.unit.specs.declared.TagUnit.{TagUnit}
 use Rattle.unit.specs.declared.Sound.{Sound}
 use Rattle.unit.specs.WellFormed.{wellFormed}
 use Rattle.unit.specs.Outcome.{Outcome, refusing, formed}
-use Rattle.tag.specs.Calls as tag
-use Rattle.tag.specs.Time.{endsNext, ringOn, oneTenth, timeoutNotice, afterTenth, tenths}
-use Rattle.demands.specs.History.{step, elapsed}
+use Rattle.tag.specs.Calls.{guarded, elapsed, waits, act}
+use Rattle.time.specs.Time.{endsNext, ringOn, oneTenth, timeoutNotice, afterTenth, tenths}
+use Rattle.demands.specs.History.{step}
 use Rattle.demands.specs.Time.{World, Notification, at, bytesGiven, roomy, slept, tenthOn, tenthsOn, waited}
 use Rattle.demands.proofs.Tenths.{after-unit}
 use Rattle.demands.proofs.Room.{served, unserved}
@@ -103,12 +103,12 @@ single (suc n) w = ap tenthOn (single n w) ∙ next-passed n w
 
 -- A call of `elapsed` on a well-formed unit: with room all the tenths, without it nothing
 module _ (n room : ℕ) (u : TagUnit) where
-  with-room : wellFormed u ≡ true → roomy room ≡ true → step (elapsed n room) u ≡ tenths n u
-  unfolding step tag.elapsed formed
+  with-room : wellFormed u ≡ true → roomy room ≡ true → step (waits n room) u ≡ tenths n u
+  unfolding act elapsed guarded formed
   with-room h e = served room u (tenths n u) e ∙ rw h
 
-  without-room : roomy room ≡ false → step (elapsed n room) u ≡ refusing 6 u
-  unfolding step tag.elapsed
+  without-room : roomy room ≡ false → step (waits n room) u ≡ refusing 6 u
+  unfolding act elapsed guarded
   without-room e = unserved room u (tenths n u) e
 
 pub slept-waited : (n room : ℕ) (w : World) → wellFormed (w .unit) ≡ true → slept n room w ≡ waited n room w

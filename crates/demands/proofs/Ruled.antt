@@ -1,9 +1,10 @@
 -- What an accepted write did, as far as nonce and keys go: it set a key, it cleared, it recovered, or it left nonce, account keys and
--- identity key alone. Each handler is gone through once, check by check. Assumes nothing.
+-- identity key alone. Each handler is gone through once, check by check.
 use Prim.Native.Nat.{ℕ}
 use mathlib.Core.Path.{_≡_, refl, sym, ap, _∙_}
 use mathlib.Core.Bool.{Bool, true, false, cond, _&&_, _||_}
 use mathlib.Core.List.{List}
+use mathlib.Core.Option.{Option, some, none}
 use native.Mathlib.Omega.{arith}
 use lib.Dec.{eqb, leb, ltb}
 use borrow.Author.Tests.{eqb-true}
@@ -12,25 +13,27 @@ use Rattle.wire.specs.Shape.{Request, parsed, shapeLegal}
 use Rattle.wire.specs.Signing.{recoveryKey, ringKey, protectionKey}
 use Rattle.wire.specs.KeyBlocks.{decryptedKey, encryptedKey}
 use Rattle.unit.specs.declared.TagUnit.{TagUnit}
+use Rattle.unit.specs.declared.Accounts.{Accounts}
 use Rattle.unit.specs.declared.Owner.{Owner}
-use Rattle.unit.specs.WellFormed.{wellFormed}
+use Rattle.unit.specs.WellFormed.{wellFormed, ownerKey}
 use Rattle.unit.specs.Change.{spent}
 use Rattle.unit.specs.Outcome.{Outcome, giving, refusing}
-use Rattle.requests.specs.declared.Found.{Found}
-use Rattle.requests.specs.Judgement.{Judgement, accepts, rejects, keyAt, answered, ownerPlace, withKey, firstTagged, tagged, proves, lastNonce}
-use Rattle.requests.specs.Provisioning.{readParameters, readState, setKey, mayReplace, rekeyed, clearKey, cleared, recoverKey, ownerFor}
-use Rattle.requests.specs.Ringing.{skips, ringLegal, ringMask, ring, rung, readSound}
-use Rattle.requests.specs.Protecting.{flagOf, protect, unprotect}
-use Rattle.requests.specs.Write.{byId, keyThere, judged, settled, written}
-use Rattle.demands.specs.History.{write, step}
+use Rattle.authentication.specs.Judgement.{Judgement, accepts, rejects, answered, under, usedKey, signedByOwner, tagged, proves, lastNonce, settled}
+use Rattle.provisioning.specs.Provisioning.{readParameters, readState, setKey, mayReplace, rekeyed, clearKey, cleared, recoverKey, claimed}
+use Rattle.ringing.specs.Ringing.{skips, ringLegal, ringMask, ring, rung, readSound}
+use Rattle.ringing.specs.Protecting.{flagOf, protect, unprotect}
+use Rattle.requests.specs.Write.{byId, keyThere, judged, written}
+use Rattle.tag.specs.Calls.{Written, write, own, calls}
+use Rattle.demands.specs.History.{step}
+use Rattle.demands.proofs.Writes.{owner-signed}
 use Rattle.demands.proofs.Guards.{Met, barred, passed, met, not-both}
 
--- the same nonce, account keys and identity key; and the same owner, where there was one
+-- the same nonce, table of account keys and identity key; and the same owner's key, where there was an owner
 pub record Alone (u v : TagUnit) : Type 0 where
   pub nonce : v .nonce ≡ u .nonce
-  pub accounts : v .accounts ≡ u .accounts
+  pub table : v .accounts .keys ≡ u .accounts .keys
   pub identity : v .identity ≡ u .identity
-  pub owner : (p : ℕ) → u .owner ≡ Owner.Place p → v .owner ≡ Owner.Place p
+  pub owner : (key : List ℕ) → ownerKey (u .accounts) ≡ some key → ownerKey (v .accounts) ≡ some key
 
 pub alone : (u : TagUnit) → Alone u u
 alone u = search
@@ -43,11 +46,11 @@ pub record Keyless (id : ℕ) : Type 0 where
 -- What the request q did with the unit u that it was judged on
 pub data Did (u : TagUnit) (q : Request) : Judgement → Type 0 where
   refused : (n : ℕ) → Did u q (rejects n)
-  set : {answer : List ℕ} (p : ℕ) → q .id ≡ 0x02 → u .owner ≡ Owner.Place p
-      → Did u q (accepts (rekeyed (decryptedKey (keyAt u p) (q .additional)) u) answer)
+  set : {answer : List ℕ} (key : List ℕ) → q .id ≡ 0x02 → ownerKey (u .accounts) ≡ some key
+      → Did u q (accepts (rekeyed (decryptedKey key (q .additional)) u) answer)
   clear : {answer : List ℕ} → q .id ≡ 0x03 → Did u q (accepts (cleared u) answer)
-  recovered : (p : ℕ) → q .id ≡ 0x04 → u .owner ≡ Owner.Place p
-      → Did u q (accepts u (answered (recoveryKey (u .identity .bytes)) u q (encryptedKey (keyAt u p) (u .identity .bytes))))
+  recovered : (key : List ℕ) → q .id ≡ 0x04 → ownerKey (u .accounts) ≡ some key
+      → Did u q (accepts u (answered (recoveryKey (u .identity .bytes)) u q (encryptedKey key (u .identity .bytes))))
   other : {v : TagUnit} {answer : List ℕ} → Keyless (q .id) → Alone u v → Did u q (accepts v answer)
 
 -- What holds on both sides of a choice holds of the choice
@@ -62,45 +65,54 @@ module _ (u : TagUnit) (q : Request) where
   checked : (ok : Bool) (n : ℕ) {next : Judgement} → Rules next → Rules (cond ok next (rejects n))
   checked ok n next = choose Rules ok (λ e. next) (λ e. refused n)
 
-  with-key : (f : Found) (g : ℕ → Judgement) → ((p : ℕ) → f ≡ Found.At p → Rules (g p)) → Rules (withKey f g)
-  with-key (Found.At p) g h = h p refl
-  with-key Found.Nowhere g h = refused 0x80
-
-  with-owner : (o : Owner) (g : ℕ → Judgement) → ((p : ℕ) → o ≡ Owner.Place p → Rules (g p)) → Rules (withKey (ownerPlace o) g)
-  with-owner (Owner.Place p) g h = h p refl
-  with-owner Owner.Nobody g h = refused 0x80
+  with-key : (o : Option (List ℕ)) (g : List ℕ → Judgement) → ((key : List ℕ) → o ≡ some key → Rules (g key)) → Rules (under o g)
+  with-key (some key) g h = h key refl
+  with-key none g h = refused 0x80
 
   did-set : q .id ≡ 0x02 → Rules (setKey u q)
   unfolding setKey
-  did-set e = with-owner (u .owner) _ (λ p o. checked (tagged (keyAt u p) (lastNonce u) q && mayReplace u q) 0x80 (set p e o))
+  did-set e = with-key (signedByOwner u q) _ (λ key o. checked (mayReplace u q) 0x80 (set key e (owner-signed u q key o)))
 
   did-clear : q .id ≡ 0x03 → Rules (clearKey u q)
   unfolding clearKey
-  did-clear e = with-owner (u .owner) _ (λ p o. checked (tagged (keyAt u p) (lastNonce u) q && proves u (q .additional)) 0x80 (clear e))
+  did-clear e = with-key (signedByOwner u q) _ (λ key o. checked (proves u (q .additional)) 0x80 (clear e))
 
   did-recover : q .id ≡ 0x04 → Rules (recoverKey u q)
   unfolding recoverKey
   did-recover e =
-      with-owner (u .owner) _
-      (λ p o.
+      with-key (ownerKey (u .accounts)) _
+      (λ key o.
       checked (tagged (recoveryKey (u .identity .bytes)) (lastNonce u) q) 0x80
-      (checked (ltb 0 (u .consent) || u .pairing) 0x82 (recovered p e o)))
+      (checked (ltb 0 (u .consent) || u .pairing) 0x82 (recovered key e o)))
 
-  -- the owner of 0x01
-  owner-stays : (o : Owner) (at p : ℕ) → o ≡ Owner.Place p → ownerFor o at ≡ Owner.Place p
-  owner-stays (Owner.Place r) at p e = e
-  owner-stays Owner.Nobody at p e = cc
+  -- the accounts of 0x01
+  claimed-table : (o : Owner) (key : List ℕ) (a : Accounts) → claimed o key a .keys ≡ a .keys
+  claimed-table Owner.Nobody key a = refl
+  claimed-table (Owner.Place p) key a = refl
+
+  claimed-owner : (o : Owner) (used : List ℕ) (a : Accounts) → a .owner ≡ o → (key : List ℕ) → ownerKey a ≡ some key
+      → ownerKey (claimed o used a) ≡ some key
+  unfolding ownerKey
+  claimed-owner Owner.Nobody used a e key h = let none-there : none ≡ some key = rw e at h in cc
+  claimed-owner (Owner.Place p) used a e key h = h
 
   module _ (k : Keyless (q .id)) where
     did-parameters : Rules (readParameters u q)
     unfolding readParameters
-    did-parameters = with-key (firstTagged u q) _ (λ p e. other k (alone u))
+    did-parameters = with-key (usedKey u q) _ (λ key e. other k (alone u))
 
     did-state : Rules (readState u q)
     unfolding readState
     did-state =
-        with-key (firstTagged u q) _
-        (λ p e. other k (record { nonce = refl; accounts = refl; identity = refl; owner = owner-stays (u .owner) p }))
+        with-key (usedKey u q) _
+        (λ key e.
+        other k
+        (record {
+          nonce = refl;
+          table = claimed-table (u .accounts .owner) key (u .accounts);
+          identity = refl;
+          owner = claimed-owner (u .accounts .owner) key (u .accounts) refl;
+        }))
 
     did-ring : Rules (ring u q)
     unfolding ring rung
@@ -140,47 +152,49 @@ module _ (u : TagUnit) (q : Request) where
       choose Rules _ (λ e. let n = eqb-true (q .id) 8 e in did-unprotect (omega arith)) (λ _. refused 0x81)))))))))
 
 -- How a write that passed 6 and 2 ended
-pub data Written (u : TagUnit) (w : List ℕ) : Outcome → Type 0 where
-  turned : (n : ℕ) → Written u w (refusing n (spent u))
+pub data Ended (u : TagUnit) (w : List ℕ) : Outcome → Type 0 where
+  turned : (n : ℕ) → Ended u w (refusing n (spent u))
   served : {v : TagUnit} {answer : List ℕ} → shapeLegal w ≡ true → u .nonce .live ≡ true → Did (spent u) (parsed w) (accepts v answer)
-      → Written u w (giving answer v)
+      → Ended u w (giving answer v)
 
 module _ (u : TagUnit) (w : List ℕ) where
-  settle : {j : Judgement} → shapeLegal w ≡ true → u .nonce .live ≡ true → Did (spent u) (parsed w) j → Written u w (settled (spent u) j)
-  settle s l (refused n) = turned n
-  settle s l (set p e o) = served s l (set p e o)
-  settle s l (clear e) = served s l (clear e)
-  settle s l (recovered p e o) = served s l (recovered p e o)
-  settle s l (other k a) = served s l (other k a)
+  settled-so : {j : Judgement} → shapeLegal w ≡ true → u .nonce .live ≡ true → Did (spent u) (parsed w) j → Ended u w (settled (spent u) j)
+  settled-so s l (refused n) = turned n
+  settled-so s l (set key e o) = served s l (set key e o)
+  settled-so s l (clear e) = served s l (clear e)
+  settled-so s l (recovered key e o) = served s l (recovered key e o)
+  settled-so s l (other k a) = served s l (other k a)
 
-  pub ends-written : Written u w (written u w)
+  pub ends-written : Ended u w (written u w)
   unfolding written judged
   ends-written =
-      let P : Judgement → Type 0 = λ j. Written u w (settled (spent u) j) in
+      let P : Judgement → Type 0 = λ j. Ended u w (settled (spent u) j) in
       choose P (shapeLegal w)
       (λ s.
       choose P (u .nonce .live)
-      (λ l. choose P (keyThere u (parsed w)) (λ k. settle s l (by-id (spent u) (parsed w))) (λ k. turned 0x80))
+      (λ l. choose P (keyThere u (parsed w)) (λ k. settled-so s l (by-id (spent u) (parsed w))) (λ k. turned 0x80))
       (λ l. turned 0x80))
       (λ s. turned 0x81)
 
 -- An accepted write: on a well-formed unit with a live nonce, of a legal shape
-pub record Served (u : TagUnit) (w : List ℕ) (room : ℕ) (answer : List ℕ) : Type 0 where
+pub record Served (u : TagUnit) (w : Written) (room : ℕ) (answer : List ℕ) : Type 0 where
   pub formed : wellFormed u ≡ true
-  pub legal : shapeLegal w ≡ true
+  pub legal : shapeLegal (w .bytes) ≡ true
   pub live : u .nonce .live ≡ true
-  pub did : Did (spent u) (parsed w) (accepts (step (write w room) u .unit) answer)
+  pub did : Did (spent u) (parsed (w .bytes)) (accepts (step (calls (write w) room) u .unit) answer)
 
-module _ (w : List ℕ) (room : ℕ) (u : TagUnit) (answer : List ℕ) where
-  from-written : {o : Outcome} → wellFormed u ≡ true → step (write w room) u ≡ o → Written u w o → o .result ≡ gives answer → Served u w room answer
+module _ (w : Written) (room : ℕ) (u : TagUnit) (answer : List ℕ) where
+  from-written : {o : Outcome} → wellFormed u ≡ true → step (calls (write w) room) u ≡ o → Ended u (w .bytes) o → o .result ≡ gives answer
+      → Served u w room answer
   from-written formed e (turned n) r = absurd (let z : _≡_ {A = ℕ} 0 1 = cc in omega arith)
   from-written formed e (served {answer = a} s l did) r =
       let given : a ≡ answer = cc in
       record { formed = formed; legal = s; live = l; did = rw e (rw given at did) }
 
-  pub accepted-write : step (write w room) u .result ≡ gives answer → Served u w room answer
-  accepted-write r = go (met (write w room) u)
+  pub accepted-write : step (calls (write w) room) u .result ≡ gives answer → Served u w room answer
+  unfolding own
+  accepted-write r = go (met (calls (write w) room) u)
     where
-      go : Met (write w room) u → Served u w room answer
-      go (barred n e bars) = absurd (not-both (write w room) u e (answer, r))
-      go (passed fits formed e) = from-written formed e (ends-written u w) (sym (ap (λ (o : Outcome). o .result) e) ∙ r)
+      go : Met (calls (write w) room) u → Served u w room answer
+      go (barred n e bars) = absurd (not-both (calls (write w) room) u e (answer, r))
+      go (passed fits formed e) = from-written formed e (ends-written u (w .bytes)) (sym (ap (λ (o : Outcome). o .result) e) ∙ r)

@@ -1,5 +1,5 @@
 -- Time keeps a unit well formed: the clock's tenth stays below 10, a ring that does not end has a tenth left, and consent only falls. Any
--- number of tenths by induction. Assumes nothing.
+-- number of tenths by induction.
 use Prim.Native.Nat.{ℕ, zero, suc, _-_, _≤_}
 use mathlib.Core.Path.{_≡_, refl}
 use mathlib.Core.Bool.{Bool, true, false, cond}
@@ -14,7 +14,7 @@ use Rattle.unit.specs.Change.{withSound, silenced}
 use Rattle.unit.specs.Outcome.{Outcome}
 use Rattle.unit.proofs.Lines.{lines, ring-held}
 use Rattle.unit.proofs.Kept.{clock-kept, consent-kept, silenced-kept, ring-kept}
-use Rattle.tag.specs.Time.{clockOn, endsNext, soundOn, ringOn, oneTenth, afterTenth, tenths}
+use Rattle.time.specs.Time.{clockOn, endsNext, soundOn, ringOn, oneTenth, afterTenth, tenths}
 
 clock-on : (c : Clock) → c .tenth ≤ 9 → clockOn c .tenth ≤ 9
 unfolding clockOn

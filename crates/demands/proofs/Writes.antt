@@ -1,12 +1,12 @@
 -- A write keeps a unit well formed: each request that is accepted makes only changes whose conditions its tests have shown. The requests are
--- judged on a unit that is well formed; 0x05 and 0x07 need its identity key. Assumes nothing.
-use Prim.Native.Nat.{ℕ, suc, _+_, _≤_, _<_}
+-- judged on a unit that is well formed; 0x05 and 0x07 need its identity key.
+use Prim.Native.Nat.{ℕ, _≤_, _<_}
 use mathlib.Core.Path.{_≡_, refl}
 use mathlib.Core.Bool.{Bool, true, false, cond, not, _&&_, _||_}
-use mathlib.Core.List.{List, [], _∷_}
+use mathlib.Core.List.{List}
+use mathlib.Core.Option.{Option, some, none}
 use native.Mathlib.Omega.{arith}
 use lib.Dec.{eqb, leb}
-use lib.ListN.{length, take, length-take}
 use borrow.Author.Tests.{eqb-true, eqb-false, leb-true, le-ltb}
 use Rattle.laws.proofs.Flags.{and-left, and-right, or-rest}
 use Rattle.wire.specs.Signing.{ringKey}
@@ -15,17 +15,19 @@ use Rattle.unit.specs.declared.TagUnit.{TagUnit}
 use Rattle.unit.specs.declared.Settings.{Settings}
 use Rattle.unit.specs.declared.Owner.{Owner}
 use Rattle.unit.specs.declared.Protection.{Protection}
-use Rattle.unit.specs.Numbers.{highestVolume, ringable}
-use Rattle.unit.specs.WellFormed.{wellFormed, heldKeys, keyBytes, inside, owned}
-use Rattle.unit.specs.Change.{spent, withOwner}
-use Rattle.unit.proofs.Lines.{RingLines, VolumeLines, lines, owner-held, settings-legal}
+use Rattle.sizes.specs.Sizes.{highestVolume}
+use Rattle.tables.specs.Rows.{placeOf}
+use Rattle.unit.specs.Ringable.{inside}
+use Rattle.unit.specs.WellFormed.{wellFormed, heldKeys, rowOf, ownerKey, owned}
+use Rattle.unit.specs.Change.{spent, withAccounts}
+use Rattle.unit.proofs.Lines.{RingLines, VolumeLines, lines, held-count, settings-legal}
 use Rattle.unit.proofs.Kept.{fresh-formed, clock-kept, battery-kept, pairing-kept, nonce-kept, spent-kept, owner-kept, identity-kept, silenced-kept, ring-kept, protection-kept, unlent-kept}
-use Rattle.requests.specs.declared.Found.{Found}
-use Rattle.requests.specs.Judgement.{Judgement, accepts, rejects, lastNonce, tagged, firstFrom, firstTagged, ownerPlace, withKey}
-use Rattle.requests.specs.Provisioning.{readParameters, readState, setKey, clearKey, recoverKey, ownerFor, rekeyed, cleared}
-use Rattle.requests.specs.Ringing.{ring, rung, readSound, skips, ringLegal, ringMask, askedMask, askedVolume, askedTimeout, heldVolume, wholeMask}
-use Rattle.requests.specs.Protecting.{protect, unprotect}
-use Rattle.requests.specs.Write.{byId, keyThere, judged, settled, written}
+use Rattle.authentication.specs.Judgement.{Judgement, accepts, rejects, lastNonce, tagged, usedKey, onlyIf, signedByOwner, under, settled}
+use Rattle.provisioning.specs.Provisioning.{readParameters, readState, setKey, clearKey, recoverKey, claimed, rekeyed, cleared}
+use Rattle.ringing.specs.Ringing.{ring, rung, readSound, skips, ringLegal, ringMask, allOfNone, askedVolume, askedTimeout, heldVolume}
+use Rattle.ringing.specs.Protecting.{protect, unprotect}
+use Rattle.requests.specs.Write.{byId, keyThere, judged, written}
+use Rattle.demands.proofs.HeldKeys.{first-among, place-below}
 use Rattle.demands.proofs.Choices.{tested}
 
 -- A judgement whose unit, if it accepts, is well formed
@@ -33,30 +35,32 @@ data Forms : Judgement → Type 0 where
   accepted : {v : TagUnit} {answer : List ℕ} → wellFormed v ≡ true → Forms (accepts v answer)
   rejected : {n : ℕ} → Forms (rejects n)
 
-key-forms : (f : Found) {j : ℕ → Judgement} → ((p : ℕ) → f ≡ Found.At p → Forms (j p)) → Forms (withKey f j)
-key-forms (Found.At p) h = h p refl
-key-forms Found.Nowhere h = rejected
+key-forms : (o : Option (List ℕ)) {j : List ℕ → Judgement} → ((key : List ℕ) → o ≡ some key → Forms (j key)) → Forms (under o j)
+key-forms (some key) h = h key refl
+key-forms none h = rejected
 
--- A key is found among those held
-found-below : (t : List ℕ → Bool) (keys : List (List ℕ)) (i p : ℕ) → firstFrom t i keys ≡ Found.At p → p < i + length keys
-unfolding firstFrom
-found-below t [] i p e = let z : _≡_ {A = ℕ} 0 1 = cc in omega arith
-found-below t (k ∷ ks) i p e = go (t k) e (found-below t ks (suc i) p)
+-- A key that is used is held; where the owner's key is used there is an owner
+used-held : (u : TagUnit) (q : Request) (key : List ℕ) → usedKey u q ≡ some key → placeOf key (heldKeys (u .accounts)) < u .accounts .count
+unfolding usedKey
+used-held u q key e =
+    let l = heldKeys (u .accounts) in
+    omega (arith, place-below key l (first-among _ l key e), held-count (u .accounts))
+
+owner-is : (o : Owner) (l : List (List ℕ)) (key : List ℕ) → rowOf o l ≡ some key → owned o ≡ true
+owner-is Owner.Nobody l key e = cc
+owner-is (Owner.Place q) l key e = refl
+
+only-some : (p : List ℕ → Bool) (o : Option (List ℕ)) (key : List ℕ) → onlyIf p o ≡ some key → o ≡ some key
+only-some p none key e = e
+only-some p (some k) key e = go (p k) e
   where
-    go : (b : Bool) → cond b (Found.At i) (firstFrom t (suc i) ks) ≡ Found.At p → (firstFrom t (suc i) ks ≡ Found.At p → p < suc i + length ks)
-        → p < i + suc (length ks)
-    go true h later = let same : i ≡ p = cc in omega arith
-    go false h later = let below = later h in omega arith
+    go : (b : Bool) → cond b (some k) none ≡ some key → some k ≡ some key
+    go true h = h
+    go false h = cc
 
-first-held : (u : TagUnit) (q : Request) (p : ℕ) → firstTagged u q ≡ Found.At p → p < u .accounts .count
-unfolding firstTagged heldKeys
-first-held u q p e =
-    let below = found-below _ (take (u .accounts .count) (keyBytes (u .accounts .keys))) 0 p e in
-    omega (arith, length-take (u .accounts .count) (keyBytes (u .accounts .keys)))
-
-owner-is : (o : Owner) (p : ℕ) → ownerPlace o ≡ Found.At p → owned o ≡ true
-owner-is Owner.Nobody p e = cc
-owner-is (Owner.Place q) p e = refl
+pub owner-signed : (u : TagUnit) (q : Request) (key : List ℕ) → signedByOwner u q ≡ some key → ownerKey (u .accounts) ≡ some key
+unfolding signedByOwner
+owner-signed u q key e = only-some _ (ownerKey (u .accounts)) key e
 
 -- A ring that is legal has a ring's lines
 held-volume : (s : Settings) (a : List ℕ) → leb (askedVolume a) highestVolume ≡ true → VolumeLines (s .selectable) (heldVolume s a)
@@ -71,7 +75,7 @@ ring-lines : (s : Settings) (a : List ℕ) (keyed : Bool) → keyed ≡ true →
 unfolding ringLegal
 ring-lines s a keyed k h z =
     let from-whole = and-right (inside (ringMask s a) (s .components)) _ h in
-    let from-volume = and-right (not (eqb (askedMask a) wholeMask && eqb (ringable (s .components)) 0)) _ from-whole in
+    let from-volume = and-right (not (allOfNone s a)) _ from-whole in
     let times = or-rest _ z (and-right (leb (askedVolume a) highestVolume) _ from-volume) in
     record {
       identityHeld = k;
@@ -86,9 +90,10 @@ ring-lines s a keyed k h z =
 ruleset forms = (key-forms, accepted, rejected)
 
 module _ (u : TagUnit) (w : wellFormed u ≡ true) (q : Request) where
-  owner-for : (o : Owner) (p : ℕ) → u .owner ≡ o → p < u .accounts .count → wellFormed (withOwner (ownerFor o p) u) ≡ true
-  owner-for Owner.Nobody p e h = owner-kept u w p h
-  owner-for (Owner.Place held) p e h = owner-kept u w held (owner-held (lines u w) held e)
+  owned-formed : (o : Owner) (key : List ℕ) → u .accounts .owner ≡ o → placeOf key (heldKeys (u .accounts)) < u .accounts .count
+      → wellFormed (withAccounts (claimed o key (u .accounts)) u) ≡ true
+  owned-formed Owner.Nobody key e h = owner-kept u w (placeOf key (heldKeys (u .accounts))) h
+  owned-formed (Owner.Place held) key e h = w
 
   parameters-forms : Forms (readParameters u q)
   unfolding readParameters
@@ -96,16 +101,18 @@ module _ (u : TagUnit) (w : wellFormed u ≡ true) (q : Request) where
 
   state-forms : Forms (readState u q)
   unfolding readState
-  state-forms = key-forms (firstTagged u q) (λ p found. accepted (owner-for (u .owner) p refl (first-held u q p found)))
+  state-forms = key-forms (usedKey u q) (λ key found. accepted (owned-formed (u .accounts .owner) key refl (used-held u q key found)))
 
-  rekeyed-formed : (identity : List ℕ) → owned (u .owner) ≡ true → wellFormed (rekeyed identity u) ≡ true
+  rekeyed-formed : (identity : List ℕ) → owned (u .accounts .owner) ≡ true → wellFormed (rekeyed identity u) ≡ true
   rekeyed-formed identity o = identity-kept _ (unlent-kept _ (silenced-kept u w)) identity o
 
   set-forms : Forms (setKey u q)
-  unfolding setKey
+  unfolding setKey ownerKey
   set-forms =
-      key-forms (ownerPlace (u .owner))
-      (λ p found. let o = owner-is (u .owner) p found in search (forms, tested Forms, rekeyed-formed))
+      key-forms (signedByOwner u q)
+      (λ key found.
+      let o = owner-is (u .accounts .owner) (heldKeys (u .accounts)) key (owner-signed u q key found) in
+      search (forms, tested Forms, rekeyed-formed))
 
   cleared-formed : wellFormed (cleared u) ≡ true
   unfolding cleared

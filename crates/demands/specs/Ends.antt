@@ -1,6 +1,6 @@
 -- Demand 1: "Every call on any bytes and any unit record ends, with a result or one refusal of a numbered list. A write refused with
 -- 0x80, 0x81, 0x82 spends the nonce and changes nothing else; other refusals change nothing; no refusal touches the lent answer bytes."
--- That each call of the code ends at all is part of what the prover shows of every function. Assumes nothing.
+-- That each call of the code ends at all is part of what the prover shows of every function.
 use Prim.Native.Nat.{ℕ}
 use mathlib.Core.Path.{_≡_}
 use mathlib.Core.Bool.{false}
@@ -8,11 +8,11 @@ use mathlib.Core.List.{List, []}
 use lib.IntN.{ℤ}
 use Rattle.laws.specs.Answer.{gives, refuses, lentAfter}
 use Rattle.unit.specs.declared.TagUnit.{TagUnit}
-use Rattle.unit.specs.Change.{spent, fresh}
+use Rattle.unit.specs.Change.{spent, fresh, noUnit}
 use Rattle.unit.specs.WellFormed.{wellFormed}
 use Rattle.unit.specs.Outcome.{Outcome}
-use Rattle.tag.specs.Calls.{newUnit, noUnit}
-use Rattle.demands.specs.History.{Call, write, step}
+use Rattle.tag.specs.Calls.{newUnit, Written, write, Act, calls}
+use Rattle.demands.specs.History.{step}
 
 -- a refusal of a write, after its nonce is spent
 pub data Spending : ℕ → Type 0 where
@@ -36,8 +36,8 @@ pub data Ended (u : TagUnit) (o : Outcome) (before : List ℕ) : Type 0 where
   refusedSame : (n : ℕ) → Plain n → o .result ≡ refuses n → o .unit ≡ u → lentAfter (o .result) before ≡ before → Ended u o before
 
 -- the refusals that spend are of writes
-abbrev pub OnlyWrites : Call → TagUnit → Type 0
-OnlyWrites c u = (n : ℕ) → Spending n → step c u .result ≡ refuses n → (w : List ℕ) × (room : ℕ) × (c ≡ write w room)
+abbrev pub OnlyWrites : Act → TagUnit → Type 0
+OnlyWrites a u = (n : ℕ) → Spending n → step a u .result ≡ refuses n → (w : Written) × (room : ℕ) × (a ≡ calls (write w) room)
 
 -- a new unit: made fresh, or refused with 1 and then no unit that any call serves
 pub data Made (power : ℤ) (components selectable : ℕ) : Type 0 where
@@ -50,6 +50,6 @@ pub data Made (power : ℤ) (components selectable : ℕ) : Type 0 where
       → Made power components selectable
 
 pub record Demand1 : Type 0 where
-  pub calls : (c : Call) (u : TagUnit) (before : List ℕ) → Ended u (step c u) before
-  pub spending : (c : Call) (u : TagUnit) → OnlyWrites c u
+  pub acts : (a : Act) (u : TagUnit) (before : List ℕ) → Ended u (step a u) before
+  pub spending : (a : Act) (u : TagUnit) → OnlyWrites a u
   pub newUnits : (power : ℤ) (components selectable : ℕ) → Made power components selectable

@@ -1,5 +1,5 @@
 -- The paper's "Examples at the edges" that are marked P, as rows of one table under one claim: what the definitions give, and what the
--- paper says, as lists of numbers. Assumes nothing.
+-- paper says, as lists of numbers.
 use Prim.Native.Nat.{ℕ}
 use mathlib.Core.Path.{_≡_}
 use mathlib.Core.Bool.{true, false}
@@ -10,15 +10,15 @@ use Rattle.unit.specs.declared.TagUnit.{TagUnit}
 use Rattle.unit.specs.declared.Settings.{Settings}
 use Rattle.unit.specs.declared.Sound.{Sound}
 use Rattle.unit.specs.declared.Protection.{Protection}
-use Rattle.unit.specs.Numbers.{window}
+use Rattle.sizes.specs.Sizes.{window}
 use Rattle.unit.specs.Change.{fresh, withSound, withClock, withProtection}
-use Rattle.requests.specs.Provisioning.{wireByte}
+use Rattle.provisioning.specs.Provisioning.{wireByte}
 use Rattle.laws.specs.Bytes.{bigEndian}
-use Rattle.requests.specs.Judgement.{Judgement, accepts, rejects}
-use Rattle.requests.specs.Ringing.{ring, ringMask}
+use Rattle.authentication.specs.Judgement.{Judgement, accepts, rejects}
+use Rattle.ringing.specs.Ringing.{ring, ringMask}
 use Rattle.tag.specs.Calls.{newUnit}
-use Rattle.tag.specs.Time.{tenths, oneTenth}
-use Rattle.tag.specs.Frame.{flagsBeforeXor}
+use Rattle.time.specs.Time.{tenths, oneTenth}
+use Rattle.frame.specs.Frame.{flagsBeforeXor}
 
 abbrev pub settings : ℕ → Settings
 settings components = record { power = pos 0; components = components; selectable = 1 }

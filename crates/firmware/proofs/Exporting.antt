@@ -1,10 +1,10 @@
 -- What an exported call gives follows from what the tag's call and the end of the call promise; and a call that changes the unit had a
--- whole record. Assumes nothing.
+-- whole record.
 use mathlib.Core.Path.{_≡_, refl, sym, ap, _∙_}
 use mathlib.Core.Logic.{⊎-elim}
 use mathlib.Core.Bool.{Bool, true, false, cond, not, _&&_, false≢true}
-use mathlib.Core.List.{List, [], _++_}
-use Prim.Native.Nat.{ℕ, _+_, _≤_, _<_}
+use mathlib.Core.List.{List, _++_}
+use Prim.Native.Nat.{ℕ, _+_, _*_, _≤_, _<_}
 use native.Mathlib.Omega.{arith}
 use lib.Dec.{eqb, leb, ltb}
 use lib.IntN.{ℤ}
@@ -12,6 +12,8 @@ use lib.ListN.{length, drop, length-append}
 use borrow.Author.Tests.{eqb-true, eqb-false}
 use Rattle.laws.specs.Answer.{Result, gives, refuses, lentAfter}
 use Rattle.laws.proofs.Flags.{true-or-false, clash}
+use Rattle.sizes.specs.Sizes.{answerRoom, accountKeySize, identifierSize, mostKeys, highestBattery}
+use Rattle.tables.specs.Rows.{among}
 use Rattle.primitives.specs.declared.Ending.{Ending}
 use Rattle.primitives.specs.Calls.{orRefusal, number as endNumber, numberOf, Answers as Digests}
 use Rattle.unit.specs.declared.TagUnit.{TagUnit}
@@ -21,46 +23,57 @@ use Rattle.unit.specs.declared.Reply.the-variants.{Done, Refused}
 use Rattle.unit.specs.declared.Refusal.{Refusal}
 use Rattle.unit.specs.declared.Refusal.the-variants.{NotAuthenticated, InvalidValue, NoConsent, OutOfRange, NotWellFormed, WrongNonce, WrongAccountKey, NoFrame, NoRoom}
 use Rattle.unit.specs.Refusals.{End, number, endOf, ending}
-use Rattle.unit.specs.Numbers.{highestBattery}
 use Rattle.unit.specs.Standing.{stands}
-use Rattle.unit.specs.Change.{spent, withPairing, withBattery}
-use Rattle.unit.specs.WellFormed.{wellFormed, settingsLegal, heldKeys, among}
-use Rattle.unit.specs.Outcome.{Outcome, giving, refusing, formed, answering, Settles, Answers}
-use Rattle.requests.specs.Judgement.{Judgement, accepts, rejects}
-use Rattle.requests.specs.Write.{written, judged, settled}
-use Rattle.tag.specs.Calls.{newUnit, nonceFits, issuing, read, write, pressed, button, elapsed, setPairing, setBattery, keeping, addKey, lending, lendIdentifier, showing, frame}
-use Rattle.tag.specs.Time.{tenths}
-use Rattle.stored.specs.Layout.{decoded, encoded}
-use Rattle.firmware.specs.Exported.{code, resultCode, recordAfter, bytesAfter, endCode, writesBack, Exports, ExportsAnswer, ExportsDigest, Finishes, digestCode}
+use Rattle.unit.specs.Change.{spent}
+use Rattle.unit.specs.WellFormed.{wellFormed, settingsLegal, heldKeys}
+use Rattle.unit.specs.Outcome.{Outcome, refusing, formed, answering, Settles, Answers}
+use Rattle.authentication.specs.Judgement.{Judgement, accepts, rejects, settled}
+use Rattle.requests.specs.Write.{written, judged}
+use Rattle.time.specs.Time.{tenths}
+use Rattle.time.specs.Passing.{Passes}
+use Rattle.tag.specs.Own.{nonceFits, issuing, pressed, charged, keeping, lending, showing}
+use Rattle.tag.specs.Calls.{newUnit, Call, read, write, button, pairing, battery, accountKey, identifier, frame, own, lends, guarded, call, elapsed}
+use Rattle.stored.specs.Record.{decoded, encoded, recordSize}
 use Rattle.stored.proofs.RoundTrip.{other-length, noUnit-malformed}
+use Rattle.firmware.specs.Exported.{endedBase, code, resultCode, recordAfter, bytesAfter, endCode, writesBack, Exports, ExportsAnswer, ExportsDigest, Finishes, digestCode}
 
 -- bytes that mean a well-formed unit are a whole record
-well-formed-length : (b : List ℕ) → wellFormed (decoded b) ≡ true → length b ≡ 214
+well-formed-length : (b : List ℕ) → wellFormed (decoded b) ≡ true → length b ≡ recordSize
 well-formed-length b h =
-    ⊎-elim (λ e. eqb-true (length b) 214 e)
-    (λ e. absurd (clash h (ap wellFormed (other-length b (eqb-false (length b) 214 e)) ∙ noUnit-malformed)))
-    (true-or-false (eqb (length b) 214))
+    ⊎-elim (λ e. eqb-true (length b) recordSize e)
+    (λ e. absurd (clash h (ap wellFormed (other-length b (eqb-false (length b) recordSize e)) ∙ noUnit-malformed)))
+    (true-or-false (eqb (length b) recordSize))
 
 -- an outcome that changes the unit only of a whole record
 abbrev pub Whole : List ℕ → Outcome → Type 0
-Whole b o = writesBack (ending (o .result)) ≡ true → length b ≡ 214
+Whole b o = writesBack (ending (o .result)) ≡ true → length b ≡ recordSize
 
+-- the guards see to that, whatever a call does by itself
 module _ (b : List ℕ) where
-  formed-choice : (own : Outcome) (t : Bool) → wellFormed (decoded b) ≡ t → Whole b (cond t own (refusing 2 (decoded b)))
-  formed-choice own true e w = well-formed-length b e
-  formed-choice own false e w = absurd (false≢true w)
+  formed-choice : (o : Outcome) (t : Bool) → wellFormed (decoded b) ≡ t → Whole b (cond t o (refusing 2 (decoded b)))
+  formed-choice o true e w = well-formed-length b e
+  formed-choice o false e w = absurd (false≢true w)
 
-  formed-whole : (own : Outcome) → Whole b (formed (decoded b) own)
+  formed-whole : (o : Outcome) → Whole b (formed (decoded b) o)
   unfolding formed
-  formed-whole own = formed-choice own (wellFormed (decoded b)) refl
+  formed-whole o = formed-choice o (wellFormed (decoded b)) refl
 
   room-choice : (o : Outcome) (t : Bool) → Whole b o → Whole b (cond t (refusing 6 (decoded b)) o)
   room-choice o true h w = absurd (false≢true w)
   room-choice o false h w = h w
 
-  answering-whole : (room : ℕ) (own : Outcome) → Whole b (answering room (decoded b) own)
-  unfolding answering
-  answering-whole room own = room-choice (formed (decoded b) own) (ltb room 42) (formed-whole own)
+  guarded-whole : (lent : Bool) (room : ℕ) (o : Outcome) → Whole b (guarded lent room (decoded b) o)
+  unfolding guarded answering
+  guarded-whole true room o = room-choice (formed (decoded b) o) (ltb room answerRoom) (formed-whole o)
+  guarded-whole false room o = formed-whole o
+
+  call-whole : (c : Call) (room : ℕ) → Whole b (call c room (decoded b))
+  unfolding call
+  call-whole c room = guarded-whole (lends c) room (own c (decoded b))
+
+  pub elapsed-whole : (n room : ℕ) → Whole b (elapsed n room (decoded b))
+  unfolding elapsed
+  elapsed-whole n room = guarded-whole true room (tenths n (decoded b))
 
 -- an outcome with no ending tenth
 pub record Untimed (o : Outcome) : Type 0 where
@@ -73,104 +86,46 @@ either : (t : Bool) {a b : Outcome} → Untimed a → Untimed b → Untimed (con
 either true p q = p
 either false p q = q
 
-formed-untimed : (u : TagUnit) {own : Outcome} → Untimed own → Untimed (formed u own)
-unfolding formed
-formed-untimed u h = either (wellFormed u) h untimed
-
-answering-untimed : (room : ℕ) (u : TagUnit) {own : Outcome} → Untimed own → Untimed (answering room u own)
-unfolding answering
-answering-untimed room u h = either (ltb room 42) untimed (formed-untimed u h)
-
--- the calls, one by one
 pub new-untimed : (power : ℤ) (components selectable : ℕ) → Untimed (newUnit power components selectable)
 unfolding newUnit
 new-untimed power components selectable =
     either (settingsLegal (record { power = power; components = components; selectable = selectable })) untimed untimed
 
-pub read-whole : (b nonce : List ℕ) (room : ℕ) → Whole b (read nonce room (decoded b))
-unfolding read
-read-whole b nonce room = answering-whole b room (issuing nonce (decoded b))
-
-pub read-untimed : (nonce : List ℕ) (room : ℕ) (u : TagUnit) → Untimed (read nonce room u)
-unfolding read issuing
-read-untimed nonce room u = answering-untimed room u (either (nonceFits u nonce) untimed untimed)
-
-pub write-whole : (b w : List ℕ) (room : ℕ) → Whole b (write w room (decoded b))
-unfolding write
-write-whole b w room = answering-whole b room (written (decoded b) w)
-
 settled-untimed : (u : TagUnit) (j : Judgement) → Untimed (settled u j)
 settled-untimed u (accepts after answer) = untimed
 settled-untimed u (rejects n) = untimed
-
-pub write-untimed : (w : List ℕ) (room : ℕ) (u : TagUnit) → Untimed (write w room u)
-unfolding write written
-write-untimed w room u = answering-untimed room u (settled-untimed (spent u) (judged u w))
-
-pub button-whole : (b : List ℕ) (room : ℕ) → Whole b (button room (decoded b))
-unfolding button
-button-whole b room = answering-whole b room (pressed (decoded b .sound) (decoded b))
 
 pressed-untimed : (s : Sound) (u : TagUnit) → Untimed (pressed s u)
 unfolding pressed
 pressed-untimed Sound.Silent u = untimed
 pressed-untimed (Sound.Ringing mask volume left) u = untimed
 
-pub button-untimed : (room : ℕ) (u : TagUnit) → Untimed (button room u)
-unfolding button
-button-untimed room u = answering-untimed room u (pressed-untimed (u .sound) u)
+own-untimed : (c : Call) (u : TagUnit) → Untimed (own c u)
+unfolding own issuing written charged keeping lending showing
+own-untimed (read nonce) u = either (nonceFits u nonce) untimed untimed
+own-untimed (write w) u = settled-untimed (spent u) (judged u (w .bytes))
+own-untimed button u = pressed-untimed (u .sound) u
+own-untimed (pairing on) u = untimed
+own-untimed (battery level) u = either (leb level highestBattery) untimed untimed
+own-untimed (accountKey key) u =
+    either (not (eqb (length key) accountKeySize)) untimed
+    (either (among key (heldKeys (u .accounts))) untimed (either (ltb (u .accounts .count) mostKeys) untimed untimed))
+own-untimed (identifier r id) u =
+    either (not (eqb (length r) identifierSize && eqb (length id) identifierSize)) untimed (either (u .identity .held) untimed untimed)
+own-untimed frame u = either (stands u) untimed untimed
 
-pub elapsed-whole : (b : List ℕ) (n room : ℕ) → Whole b (elapsed n room (decoded b))
-unfolding elapsed
-elapsed-whole b n room = answering-whole b room (tenths n (decoded b))
+guarded-untimed : (lent : Bool) (room : ℕ) (u : TagUnit) {o : Outcome} → Untimed o → Untimed (guarded lent room u o)
+unfolding guarded answering formed
+guarded-untimed true room u h = either (ltb room answerRoom) untimed (either (wellFormed u) h untimed)
+guarded-untimed false room u h = either (wellFormed u) h untimed
 
-pub pairing-whole : (b : List ℕ) (on : Bool) → Whole b (setPairing on (decoded b))
-unfolding setPairing
-pairing-whole b on = formed-whole b (giving [] (withPairing on (decoded b)))
-
-pub pairing-untimed : (on : Bool) (u : TagUnit) → Untimed (setPairing on u)
-unfolding setPairing
-pairing-untimed on u = formed-untimed u untimed
-
-pub battery-whole : (b : List ℕ) (level : ℕ) → Whole b (setBattery level (decoded b))
-unfolding setBattery
-battery-whole b level =
-    formed-whole b (cond (leb level highestBattery) (giving [] (withBattery level (decoded b))) (refusing 1 (decoded b)))
-
-pub battery-untimed : (level : ℕ) (u : TagUnit) → Untimed (setBattery level u)
-unfolding setBattery
-battery-untimed level u = formed-untimed u (either (leb level highestBattery) untimed untimed)
-
-pub key-whole : (b key : List ℕ) → Whole b (addKey key (decoded b))
-unfolding addKey
-key-whole b key = formed-whole b (keeping key (decoded b))
-
-pub key-untimed : (key : List ℕ) (u : TagUnit) → Untimed (addKey key u)
-unfolding addKey keeping
-key-untimed key u = formed-untimed u
-    (either (not (eqb (length key) 16)) untimed
-    (either (among key (heldKeys (u .accounts))) untimed (either (ltb (u .accounts .count) 5) untimed untimed)))
-
-pub identifier-whole : (b r id : List ℕ) → Whole b (lendIdentifier r id (decoded b))
-unfolding lendIdentifier
-identifier-whole b r id = formed-whole b (lending r id (decoded b))
-
-pub identifier-untimed : (r id : List ℕ) (u : TagUnit) → Untimed (lendIdentifier r id u)
-unfolding lendIdentifier lending
-identifier-untimed r id u = formed-untimed u
-    (either (not (eqb (length r) 20 && eqb (length id) 20)) untimed (either (u .identity .held) untimed untimed))
-
-pub frame-whole : (b : List ℕ) (room : ℕ) → Whole b (frame room (decoded b))
-unfolding frame
-frame-whole b room = answering-whole b room (showing (decoded b))
-
-pub frame-untimed : (room : ℕ) (u : TagUnit) → Untimed (frame room u)
-unfolding frame showing
-frame-untimed room u = answering-untimed room u (either (stands u) untimed untimed)
+call-untimed : (c : Call) (room : ℕ) (u : TagUnit) → Untimed (call c room u)
+unfolding call
+call-untimed c room u = guarded-untimed (lends c) room u (own-untimed c u)
 
 -- from the end of the tag's call to the number and the record
 pub back-whole : (o : Outcome) (b : List ℕ) (reply : Reply) → Whole b o → endOf reply ≡ ending (o .result)
-    → writesBack (endOf reply) ≡ true → length b ≡ 214
+    → writesBack (endOf reply) ≡ true → length b ≡ recordSize
 back-whole o b reply h e w = h (rw e at w)
 
 end-code : (r : Result) → endCode (ending r) ≡ resultCode r
@@ -209,6 +164,42 @@ module _ {o : Outcome} {reply : Reply} {unit : TagUnit} {result : ℕ} {before a
         codeIs = finished-code o reply (s .endIs) f ∙ rw (t .none) (omega arith);
         recordIs = finished-record o reply (s .unitIs) (s .endIs) f;
         bytesAre = s .bytesAre;
+      }
+
+-- and so for every call on the unit that bytes mean
+module _ (c : Call) (room : ℕ) (b : List ℕ) {u unit : TagUnit} {reply : Reply} (read : u ≡ decoded b) where
+  pub settles-whole : Settles (call c room u) unit reply → writesBack (endOf reply) ≡ true → length b ≡ recordSize
+  settles-whole s = back-whole (call c room (decoded b)) b reply (call-whole b c room) (rw read at (s .endIs))
+
+  pub settles-exports : {result : ℕ} {after : List ℕ} → Settles (call c room u) unit reply → Finishes unit (endOf reply) result b after
+      → Exports (call c room (decoded b)) result b after
+  settles-exports s f = exported (rw read at s) (call-untimed c room (decoded b)) f
+
+  module _ {lent given : List ℕ} where
+    pub answers-whole : Answers (call c room u) unit reply lent given → writesBack (endOf reply) ≡ true → length b ≡ recordSize
+    answers-whole s = back-whole (call c room (decoded b)) b reply (call-whole b c room) (rw read at (s .endIs))
+
+    pub answers-exports : {result : ℕ} {after : List ℕ} → Answers (call c room u) unit reply lent given → Finishes unit (endOf reply) result b after
+        → ExportsAnswer (call c room (decoded b)) result b after lent given
+    answers-exports s f = exported-answer (rw read at s) (call-untimed c room (decoded b)) f
+
+-- and for time, whose number also has the ending tenth
+module _ (n room : ℕ) (b : List ℕ) {u unit : TagUnit} {reply : Reply} {ended : ℕ} {lent given : List ℕ} (read : u ≡ decoded b)
+    (p : Passes (elapsed n room u) unit reply ended lent given) where
+  passes : Passes (elapsed n room (decoded b)) unit reply ended lent given
+  passes = rw read at p
+
+  pub passes-whole : writesBack (endOf reply) ≡ true → length b ≡ recordSize
+  passes-whole = back-whole (elapsed n room (decoded b)) b reply (elapsed-whole b n room) (passes .answers .endIs)
+
+  pub passes-exports : {result : ℕ} {after : List ℕ} → Finishes unit (endOf reply) result b after
+      → ExportsAnswer (elapsed n room (decoded b)) (result + ended * endedBase) b after lent given
+  unfolding code
+  passes-exports f =
+      record {
+        codeIs = rw (finished-code (elapsed n room (decoded b)) reply (passes .answers .endIs) f, passes .endedIs);
+        recordIs = finished-record (elapsed n room (decoded b)) reply (passes .answers .unitIs) (passes .answers .endIs) f;
+        bytesAre = passes .answers .bytesAre;
       }
 
 -- the number of a call's end is small: an answer is no longer than the lent bytes, and the refusals' numbers are

@@ -1,4 +1,4 @@
--- What the exported functions give: one number, and the record's bytes and the answer bytes after the call. Assumes nothing.
+-- What the exported functions give: one number, and the record's bytes and the answer bytes after the call.
 use Prim.Native.Nat.{ℕ, _+_, _*_, _^_}
 use mathlib.Core.Path.{_≡_}
 use mathlib.Core.Bool.{Bool, true, cond, _||_}
@@ -11,8 +11,8 @@ use Rattle.primitives.specs.declared.Ending.{Ending}
 use Rattle.unit.specs.declared.TagUnit.{TagUnit}
 use Rattle.unit.specs.Refusals.{End, wrote, refused}
 use Rattle.unit.specs.Outcome.{Outcome, refusing}
-use Rattle.tag.specs.Calls.{noUnit}
-use Rattle.stored.specs.Layout.{encoded, recordBytes}
+use Rattle.unit.specs.Change.{noUnit}
+use Rattle.stored.specs.Record.{encoded, recordSize}
 
 -- the number of bytes written, or 256 and the refusal's number; and, 65,536 times, the tenth at which a ring ended
 abbrev pub refusalBase : ℕ
@@ -52,7 +52,7 @@ pub record ExportsAnswer (o : Outcome) (result : ℕ) (recordBefore recordNow be
 
 -- a new record: refusal 2 for bytes of another length, else as for a new unit
 abbrev pub newIn : List ℕ → Outcome → Outcome
-newIn before made = cond (eqb (length before) recordBytes) made (refusing 2 noUnit)
+newIn before made = cond (eqb (length before) recordSize) made (refusing 2 noUnit)
 
 -- what an exported primitive promises
 pub record ExportsDigest (answer : Result) (result : ℕ) (before after : List ℕ) : Type 0 where

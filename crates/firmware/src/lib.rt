@@ -1,16 +1,20 @@
-// The tag's calls for a host in C or Rust, over the unit as a record of 214 bytes that the host keeps and saves. Any bytes may be handed
-// in: those that are no record are answered as a unit that is not well formed. Each call gives one number: the answer bytes written, or
+// The tag's calls for a host in C or Rust, over the unit as a record of bytes that the host keeps and saves. Any bytes may be handed in:
+// those that are no record are answered as a unit that is not well formed. Each call gives one number: the answer bytes written, or
 // 256 and the refusal's number; for elapsed time also, 65,536 times, the tenth at which a ring ended.
 ghost use mathlib.Core.Bool.{not};
 ghost use lib.Dec.{eqb};
 ghost use lib.ListN.{length};
 ghost use Rattle.primitives.specs.Calls.{hashed, authenticated, encrypted, decrypted};
-ghost use Rattle.tag.specs.Calls.{newUnit, read as readOf, write as writeOf, button as buttonOf, elapsed as elapsedOf, setPairing, setBattery, addKey, lendIdentifier, frame as frameOf};
-ghost use Rattle.stored.specs.Layout.{decoded};
+ghost use Rattle.tag.specs.Calls.{newUnit, call, elapsed as elapsedOf};
+ghost use Rattle.tag.specs.Calls as of;
+ghost use Rattle.stored.specs.Record.{decoded};
 ghost use Rattle.firmware.specs.Exported.{Exports, ExportsAnswer, ExportsDigest, newIn};
-use stored::decode;
+use sizes::BLOCK_SIZE;
+use sizes::DIGEST_SIZE;
+use stored::RECORD_SIZE;
 use unit::Refusal;
 use unit::Reply;
+use unit::change;
 
 // 65,536 times the tenth at which a ring ended stands in the number of elapsed time.
 const ENDED_BASE: u64 = 65536;
@@ -19,129 +23,129 @@ mod finish;
 
 // A new unit in the record. Refusals: 2 for a record of another length, then 1 for settings out of range; the bytes then stay.
 #[no_mangle]
-pub extern "C" fn tag_new(stored: &mut [u8], power: i32, components: u32, selectable: u32) -> u64
-    ensures { λ code. ⌜ Exports (newIn (now (stored .entry)) (newUnit power components selectable)) code (now (stored .entry)) (now (stored .exit)) ⌝ }
+pub extern "C" fn tag_new(bytes: &mut [u8], power: i32, components: u32, selectable: u32) -> u64
+    ensures { λ code. ⌜ Exports (newIn (now (bytes .entry)) (newUnit power components selectable)) code (now (bytes .entry)) (now (bytes .exit)) ⌝ }
 {
-    if stored.len() != 214 {
+    if bytes.len() != RECORD_SIZE {
         return finish::finish(
-            stored,
-            decode::no_unit(),
+            bytes,
+            change::no_unit(),
             Reply::Refused(Refusal::NotWellFormed),
         );
     }
     let step = tag::new_unit(power, components, selectable);
     let after = step.unit;
     let reply = step.reply;
-    finish::finish(stored, after, reply)
+    finish::finish(bytes, after, reply)
 }
 
 // Read: issues the lent nonce. Refusals: 6, 2, 3.
 #[no_mangle]
-pub extern "C" fn tag_read(stored: &mut [u8], nonce: &[u8], answer: &mut [u8]) -> u64
-    ensures { λ code. ⌜ ExportsAnswer (readOf (now (nonce .entry)) (length (now (answer .entry))) (decoded (now (stored .entry)))) code (now (stored .entry)) (now (stored .exit)) (now (answer .entry)) (now (answer .exit)) ⌝ }
+pub extern "C" fn tag_read(bytes: &mut [u8], nonce: &[u8], answer: &mut [u8]) -> u64
+    ensures { λ code. ⌜ ExportsAnswer (call (of.read (now (nonce .entry))) (length (now (answer .entry))) (decoded (now (bytes .entry)))) code (now (bytes .entry)) (now (bytes .exit)) (now (answer .entry)) (now (answer .exit)) ⌝ }
 {
-    let unit = decode::decode(stored);
+    let unit = stored::decode(bytes);
     let step = tag::read(unit, nonce, answer);
     let after = step.unit;
     let reply = step.reply;
-    finish::finish(stored, after, reply)
+    finish::finish(bytes, after, reply)
 }
 
 // Write: a request of the phone's. Refusals: 6, 2, and then, with the nonce spent, 0x81, 0x80, 0x81, 0x82.
 #[no_mangle]
-pub extern "C" fn tag_write(stored: &mut [u8], request: &[u8], answer: &mut [u8]) -> u64
-    ensures { λ code. ⌜ ExportsAnswer (writeOf (now (request .entry)) (length (now (answer .entry))) (decoded (now (stored .entry)))) code (now (stored .entry)) (now (stored .exit)) (now (answer .entry)) (now (answer .exit)) ⌝ }
+pub extern "C" fn tag_write(bytes: &mut [u8], request: &[u8], answer: &mut [u8]) -> u64
+    ensures { λ code. ⌜ ExportsAnswer (call (of.write (record { bytes = now (request .entry) })) (length (now (answer .entry))) (decoded (now (bytes .entry)))) code (now (bytes .entry)) (now (bytes .exit)) (now (answer .entry)) (now (answer .exit)) ⌝ }
 {
-    let unit = decode::decode(stored);
+    let unit = stored::decode(bytes);
     let step = tag::write(unit, request, answer);
     let after = step.unit;
     let reply = step.reply;
-    finish::finish(stored, after, reply)
+    finish::finish(bytes, after, reply)
 }
 
 // Button. Refusals: 6, 2.
 #[no_mangle]
-pub extern "C" fn tag_button(stored: &mut [u8], answer: &mut [u8]) -> u64
-    ensures { λ code. ⌜ ExportsAnswer (buttonOf (length (now (answer .entry))) (decoded (now (stored .entry)))) code (now (stored .entry)) (now (stored .exit)) (now (answer .entry)) (now (answer .exit)) ⌝ }
+pub extern "C" fn tag_button(bytes: &mut [u8], answer: &mut [u8]) -> u64
+    ensures { λ code. ⌜ ExportsAnswer (call of.button (length (now (answer .entry))) (decoded (now (bytes .entry)))) code (now (bytes .entry)) (now (bytes .exit)) (now (answer .entry)) (now (answer .exit)) ⌝ }
 {
-    let unit = decode::decode(stored);
+    let unit = stored::decode(bytes);
     let step = tag::button(unit, answer);
     let after = step.unit;
     let reply = step.reply;
-    finish::finish(stored, after, reply)
+    finish::finish(bytes, after, reply)
 }
 
 // Time: any number of tenths. Refusals: 6, 2.
 #[no_mangle]
-pub extern "C" fn tag_elapsed(stored: &mut [u8], tenths: u32, answer: &mut [u8]) -> u64
-    ensures { λ code. ⌜ ExportsAnswer (elapsedOf tenths (length (now (answer .entry))) (decoded (now (stored .entry)))) code (now (stored .entry)) (now (stored .exit)) (now (answer .entry)) (now (answer .exit)) ⌝ }
+pub extern "C" fn tag_elapsed(bytes: &mut [u8], tenths: u32, answer: &mut [u8]) -> u64
+    ensures { λ code. ⌜ ExportsAnswer (elapsedOf tenths (length (now (answer .entry))) (decoded (now (bytes .entry)))) code (now (bytes .entry)) (now (bytes .exit)) (now (answer .entry)) (now (answer .exit)) ⌝ }
 {
-    let unit = decode::decode(stored);
+    let unit = stored::decode(bytes);
     let passed = tag::elapsed(unit, tenths, answer);
     let after = passed.unit;
     let reply = passed.reply;
-    let code = finish::finish(stored, after, reply);
+    let code = finish::finish(bytes, after, reply);
     code + passed.ended as u64 * ENDED_BASE
 }
 
 // Pairing mode: 0 is off, anything else on. Refusal: 2.
 #[no_mangle]
-pub extern "C" fn tag_pairing(stored: &mut [u8], on: u32) -> u64
-    ensures { λ code. ⌜ Exports (setPairing (not (eqb on 0)) (decoded (now (stored .entry)))) code (now (stored .entry)) (now (stored .exit)) ⌝ }
+pub extern "C" fn tag_pairing(bytes: &mut [u8], on: u32) -> u64
+    ensures { λ code. ⌜ Exports (call (of.pairing (not (eqb on 0))) 0 (decoded (now (bytes .entry)))) code (now (bytes .entry)) (now (bytes .exit)) ⌝ }
 {
-    let unit = decode::decode(stored);
+    let unit = stored::decode(bytes);
     let step = tag::pairing(unit, on != 0);
     let after = step.unit;
     let reply = step.reply;
-    finish::finish(stored, after, reply)
+    finish::finish(bytes, after, reply)
 }
 
 // The battery level. Refusals: 2, 1.
 #[no_mangle]
-pub extern "C" fn tag_battery(stored: &mut [u8], level: u32) -> u64
-    ensures { λ code. ⌜ Exports (setBattery level (decoded (now (stored .entry)))) code (now (stored .entry)) (now (stored .exit)) ⌝ }
+pub extern "C" fn tag_battery(bytes: &mut [u8], level: u32) -> u64
+    ensures { λ code. ⌜ Exports (call (of.battery level) 0 (decoded (now (bytes .entry)))) code (now (bytes .entry)) (now (bytes .exit)) ⌝ }
 {
-    let unit = decode::decode(stored);
+    let unit = stored::decode(bytes);
     let step = tag::battery(unit, level);
     let after = step.unit;
     let reply = step.reply;
-    finish::finish(stored, after, reply)
+    finish::finish(bytes, after, reply)
 }
 
 // Adds an account key. Refusals: 2, 4.
 #[no_mangle]
-pub extern "C" fn tag_account_key(stored: &mut [u8], key: &[u8]) -> u64
-    ensures { λ code. ⌜ Exports (addKey (now (key .entry)) (decoded (now (stored .entry)))) code (now (stored .entry)) (now (stored .exit)) ⌝ }
+pub extern "C" fn tag_account_key(bytes: &mut [u8], key: &[u8]) -> u64
+    ensures { λ code. ⌜ Exports (call (of.accountKey (now (key .entry))) 0 (decoded (now (bytes .entry)))) code (now (bytes .entry)) (now (bytes .exit)) ⌝ }
 {
-    let unit = decode::decode(stored);
+    let unit = stored::decode(bytes);
     let step = tag::account_key(unit, key);
     let after = step.unit;
     let reply = step.reply;
-    finish::finish(stored, after, reply)
+    finish::finish(bytes, after, reply)
 }
 
 // Lends the identifier for the current window. Refusals: 2, 1, 5.
 #[no_mangle]
-pub extern "C" fn tag_lend_identifier(stored: &mut [u8], r: &[u8], id: &[u8]) -> u64
-    ensures { λ code. ⌜ Exports (lendIdentifier (now (r .entry)) (now (id .entry)) (decoded (now (stored .entry)))) code (now (stored .entry)) (now (stored .exit)) ⌝ }
+pub extern "C" fn tag_lend_identifier(bytes: &mut [u8], r: &[u8], id: &[u8]) -> u64
+    ensures { λ code. ⌜ Exports (call (of.identifier (now (r .entry)) (now (id .entry))) 0 (decoded (now (bytes .entry)))) code (now (bytes .entry)) (now (bytes .exit)) ⌝ }
 {
-    let unit = decode::decode(stored);
+    let unit = stored::decode(bytes);
     let step = tag::lend_identifier(unit, r, id);
     let after = step.unit;
     let reply = step.reply;
-    finish::finish(stored, after, reply)
+    finish::finish(bytes, after, reply)
 }
 
 // The advertised frame. Refusals: 6, 2, 5.
 #[no_mangle]
-pub extern "C" fn tag_frame(stored: &mut [u8], answer: &mut [u8]) -> u64
-    ensures { λ code. ⌜ ExportsAnswer (frameOf (length (now (answer .entry))) (decoded (now (stored .entry)))) code (now (stored .entry)) (now (stored .exit)) (now (answer .entry)) (now (answer .exit)) ⌝ }
+pub extern "C" fn tag_frame(bytes: &mut [u8], answer: &mut [u8]) -> u64
+    ensures { λ code. ⌜ ExportsAnswer (call of.frame (length (now (answer .entry))) (decoded (now (bytes .entry)))) code (now (bytes .entry)) (now (bytes .exit)) (now (answer .entry)) (now (answer .exit)) ⌝ }
 {
-    let unit = decode::decode(stored);
+    let unit = stored::decode(bytes);
     let step = tag::advertise(unit, answer);
     let after = step.unit;
     let reply = step.reply;
-    finish::finish(stored, after, reply)
+    finish::finish(bytes, after, reply)
 }
 
 // SHA-256 of a message of up to 65,535 bytes, into 32 bytes. Refusal: 7.
@@ -150,7 +154,7 @@ pub extern "C" fn tag_sha256(message: &[u8], answer: &mut [u8]) -> u64
     ensures { λ code. ⌜ ExportsDigest (hashed (now (message .entry)) (length (now (answer .entry)))) code (now (answer .entry)) (now (answer .exit)) ⌝ }
 {
     let end = primitives::sha256(message, answer);
-    finish::digest_code(end, 32)
+    finish::digest_code(end, DIGEST_SIZE as u64)
 }
 
 // HMAC-SHA-256 under a key of up to 65,535 bytes of a message of as many, into 32 bytes. Refusal: 7.
@@ -159,7 +163,7 @@ pub extern "C" fn tag_hmac_sha256(key: &[u8], message: &[u8], answer: &mut [u8])
     ensures { λ code. ⌜ ExportsDigest (authenticated (now (key .entry)) (now (message .entry)) (length (now (answer .entry)))) code (now (answer .entry)) (now (answer .exit)) ⌝ }
 {
     let end = primitives::hmac_sha256(key, message, answer);
-    finish::digest_code(end, 32)
+    finish::digest_code(end, DIGEST_SIZE as u64)
 }
 
 // AES-128 of a block of 16 bytes under a key of 16 bytes, into 16 bytes. Refusal: 7.
@@ -168,7 +172,7 @@ pub extern "C" fn tag_aes128_encrypt(key: &[u8], block: &[u8], answer: &mut [u8]
     ensures { λ code. ⌜ ExportsDigest (encrypted (now (key .entry)) (now (block .entry)) (length (now (answer .entry)))) code (now (answer .entry)) (now (answer .exit)) ⌝ }
 {
     let end = primitives::aes128_encrypt(key, block, answer);
-    finish::digest_code(end, 16)
+    finish::digest_code(end, BLOCK_SIZE as u64)
 }
 
 // Its inverse, with the same sizes. Refusal: 7.
@@ -177,5 +181,5 @@ pub extern "C" fn tag_aes128_decrypt(key: &[u8], block: &[u8], answer: &mut [u8]
     ensures { λ code. ⌜ ExportsDigest (decrypted (now (key .entry)) (now (block .entry)) (length (now (answer .entry)))) code (now (answer .entry)) (now (answer .exit)) ⌝ }
 {
     let end = primitives::aes128_decrypt(key, block, answer);
-    finish::digest_code(end, 16)
+    finish::digest_code(end, BLOCK_SIZE as u64)
 }

@@ -1,4 +1,4 @@
--- The bytes of a hash value one by one, and the number of blocks of a padded message. Assumes nothing.
+-- The bytes of a hash value one by one, and the number of blocks of a padded message.
 use mathlib.Core.Path.{_≡_, ap, _∙_}
 use mathlib.Core.List.{List, [], _∷_, _++_}
 use Prim.Native.Nat.{ℕ, _+_, _-_, _*_, _/_, _%_, _^_, _≤_, _<_}

@@ -1,4 +1,4 @@
--- The key block of HMAC: how loops fill it and mask it, and how the two hashes under it make HMAC. Assumes nothing.
+-- The key block of HMAC: how loops fill it and mask it, and how the two hashes under it make HMAC.
 use mathlib.Core.Path.{_≡_, sym, _∙_}
 use mathlib.Core.List.{List, [], _++_, append-nil}
 use Prim.Native.Nat.{ℕ, zero, suc, _+_, _-_, _≤_, _<_}

@@ -1,5 +1,5 @@
 -- What callers use of SHA-256 and HMAC: 32 bytes, each below 256; and that the padding is the one that FIPS 180-4 asks for:
--- the fewest zeros, and whole blocks. Assumes nothing.
+-- the fewest zeros, and whole blocks.
 use mathlib.Core.Path.{_≡_, refl}
 use mathlib.Core.List.{List, [], _∷_}
 use Prim.Native.Nat.{ℕ, _+_, _%_, _≤_, _<_}

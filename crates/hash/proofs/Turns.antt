@@ -1,5 +1,5 @@
 -- The 64 turns of a block are four passes of sixteen: a pass over words s to s + 15 of the schedule takes the working
--- variables from turn s to turn s + 16. Assumes nothing.
+-- variables from turn s to turn s + 16.
 use mathlib.Core.Path.{_≡_, refl, _∙_}
 use mathlib.Core.List.{List}
 use Prim.Native.Nat.{ℕ, _+_, _≤_, _<_}

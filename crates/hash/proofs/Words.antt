@@ -1,5 +1,5 @@
 -- The message schedule: its length, that a word stays as it grows, the equation of word 16 + t, and that any sixteen words
--- of it continue as the schedule does. Assumes nothing.
+-- of it continue as the schedule does.
 use mathlib.Core.Path.{_≡_, refl, sym, ap, _∙_}
 use mathlib.Core.List.{List, [], _∷_}
 use Prim.Native.Nat.{ℕ, zero, suc, _+_, _-_, _%_, _≤_, _<_}

@@ -1,4 +1,4 @@
--- The constants of SHA-256. Assumes nothing.
+-- The constants of SHA-256.
 use Prim.Native.Nat.{ℕ}
 use mathlib.Core.List.{List, [], _∷_}
 

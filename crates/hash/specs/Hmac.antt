@@ -1,4 +1,4 @@
--- HMAC as RFC 2104 defines it, with SHA-256 for H, so B = 64 and L = 32. Assumes nothing.
+-- HMAC as RFC 2104 defines it, with SHA-256 for H, so B = 64 and L = 32.
 use Prim.Native.Nat.{ℕ, _-_}
 use mathlib.Core.Bool.{cond}
 use mathlib.Core.List.{List, _++_}

@@ -1,5 +1,4 @@
 -- SHA-256 as FIPS 180-4 defines it, over messages of whole bytes. Clause numbers are the standard's, and names where it has them.
--- Assumes nothing.
 use Prim.Native.Nat.{ℕ, zero, suc, _+_, _-_, _*_, _/_, _%_, _^_}
 use mathlib.Core.List.{List, [], _∷_, _++_}
 use lib.ListN.{length, getD, take, drop, replicate}

@@ -1,5 +1,5 @@
 -- Laws of a loop that copies a list into a buffer from a place on, a store a turn, and of one copy after another.
--- `paste xs at ys n` is xs with the first n elements of ys put in from the place on. Assumes nothing.
+-- `paste xs at ys n` is xs with the first n elements of ys put in from the place on.
 use mathlib.Core.Path.{_≡_, sym, ap, _∙_}
 use mathlib.Core.List.{List, _++_, append-nil, append-assoc}
 use Prim.Native.Nat.{ℕ, _+_, _≤_, _<_}

@@ -1,5 +1,4 @@
 -- A list and its first n elements, written out one by one: at a numeral the tabulation computes to the literal.
--- Assumes nothing.
 use mathlib.Core.Path.{_≡_, refl}
 use mathlib.Core.List.{List}
 use Prim.Native.Nat.{ℕ, _≤_}

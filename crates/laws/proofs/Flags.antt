@@ -1,4 +1,4 @@
--- Laws of tests joined by "and" and "or", read as facts. Assumes nothing.
+-- Laws of tests joined by "and" and "or", read as facts.
 use mathlib.Core.Path.{_≡_, refl, sym, _∙_}
 use mathlib.Core.Logic.{_⊎_, inl, inr}
 use mathlib.Core.Bool.{Bool, true, false, not, _&&_, _||_, true≢false, false≢true}

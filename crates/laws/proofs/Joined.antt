@@ -1,4 +1,4 @@
--- Laws of a list made of two parts: an element, or a run of elements, lies in the one or in the other. Assumes nothing.
+-- Laws of a list made of two parts: an element, or a run of elements, lies in the one or in the other.
 use mathlib.Core.Path.{_≡_, ap, _∙_}
 use mathlib.Core.List.{List, _++_}
 use Prim.Native.Nat.{ℕ, _+_, _-_, _≤_}

@@ -8,3 +8,4 @@ pub mod Flags
 pub mod Same
 pub mod Copied
 pub mod Elements
+pub mod Answered

@@ -1,4 +1,4 @@
--- Laws of XOR place by place: its length, its elements, and XOR with one byte repeated. Assumes nothing.
+-- Laws of XOR place by place: its length, its elements, and XOR with one byte repeated.
 use mathlib.Core.Path.{_≡_, refl, ap, _∙_}
 use mathlib.Core.List.{List, [], _∷_}
 use Prim.Native.Nat.{ℕ, zero, suc, _<_}

@@ -1,5 +1,5 @@
 -- Laws of `sameBytes` and `allZero`: the tests hold exactly of equal lists and of lists of zeros, and how a loop that goes from the
--- front decides them. Assumes nothing.
+-- front decides them.
 use Prim.Native.Nat.{ℕ, zero, suc, _+_, _≤_, _<_}
 use mathlib.Core.Path.{_≡_, refl, sym, ap, _∙_}
 use mathlib.Core.Bool.{true, false, _&&_}
@@ -7,7 +7,7 @@ use mathlib.Core.List.{List, [], _∷_}
 use native.Mathlib.Numerals.{add-one}
 use lib.Dec.{eqb}
 use lib.ListN.{length, getD, drop, replicate, drop-of-length-le}
-use lib.Seq.{drop-cons}
+use lib.Seq.{drop-cons, drop-drop}
 use borrow.Author.Tests.{eqb-true, eq-eqb, ne-eqb}
 use Rattle.laws.specs.Bytes.{sameBytes, allZero}
 use Rattle.laws.proofs.Flags.{and-left, and-right, both, fails, agree, clash}
@@ -46,19 +46,12 @@ same-sym a b =
 pub lengths-differ : (a b : List ℕ) → (length a ≡ length b → ⊥) → sameBytes a b ≡ false
 lengths-differ a b h = differ-same a b (λ e. h (ap length e))
 
--- A loop from the front: a place where the bytes are equal leaves the rest to decide, one where they differ decides, and so does the end
+-- A loop from the front: the bytes at a place and the rest decide together, and the end is the same
 module _ (a b : List ℕ) (i : ℕ) where
-  same-from : i < length a → i < length b
+  pub same-from : i < length a → i < length b
       → sameBytes (drop i a) (drop i b) ≡ (eqb (getD a i 0) (getD b i 0) && sameBytes (drop (i + 1) a) (drop (i + 1) b))
   unfolding sameBytes
   same-from h k = rw (add-one i, drop-cons a i 0 h, drop-cons b i 0 k)
-
-  pub same-next : i < length a → i < length b → getD a i 0 ≡ getD b i 0
-      → sameBytes (drop i a) (drop i b) ≡ sameBytes (drop (i + 1) a) (drop (i + 1) b)
-  same-next h k e = same-from h k ∙ rw (eq-eqb (getD a i 0) (getD b i 0) e)
-
-  pub same-stop : i < length a → i < length b → (getD a i 0 ≡ getD b i 0 → ⊥) → sameBytes (drop i a) (drop i b) ≡ false
-  same-stop h k d = same-from h k ∙ rw (ne-eqb (getD a i 0) (getD b i 0) d)
 
   pub same-end : length a ≤ i → length b ≤ i → sameBytes (drop i a) (drop i b) ≡ true
   unfolding sameBytes
@@ -91,3 +84,13 @@ module _ (s : List ℕ) (i : ℕ) where
   pub zeros-end : length s ≤ i → allZero (drop i s) ≡ true
   unfolding allZero
   zeros-end h = rw (drop-of-length-le s h)
+
+-- Zeros from a place on are zeros from any later place on
+zeros-behind : (l : List ℕ) (n : ℕ) → allZero l ≡ true → allZero (drop n l) ≡ true
+unfolding allZero
+zeros-behind l zero h = h
+zeros-behind [] (suc n) h = refl
+zeros-behind (x ∷ xs) (suc n) h = zeros-behind xs n (and-right (eqb x 0) _ h)
+
+pub zeros-later : (l : List ℕ) (n m : ℕ) → allZero (drop n l) ≡ true → allZero (drop (n + m) l) ≡ true
+zeros-later l n m h = rw drop-drop at (zeros-behind (drop n l) m h)

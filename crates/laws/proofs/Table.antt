@@ -1,5 +1,4 @@
 -- Equations of the numbers below a bound, from one test that antt computes at every one of them.
--- Assumes nothing.
 use mathlib.Core.Path.{_≡_, refl, ap₂, subst}
 use mathlib.Core.Bool.{Bool, true, false, _&&_}
 use mathlib.Core.List.{List, [], _∷_}

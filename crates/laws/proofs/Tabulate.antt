@@ -1,5 +1,4 @@
 -- Laws of a tabulated list: its length, its elements, and how a buffer is filled with one, a store a turn.
--- Assumes nothing.
 use mathlib.Core.Path.{_≡_, refl, sym, ap, _∙_}
 use mathlib.Core.List.{List, [], _∷_, _++_, append-nil, append-assoc}
 use Prim.Native.Nat.{ℕ, zero, suc, _+_, _-_, _≤_, _<_}

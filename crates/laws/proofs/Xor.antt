@@ -1,6 +1,5 @@
 -- Laws of XOR on numbers, from their halves and last digits: associativity, exchange, cancelling. Then XOR place by place on
 -- lists: length, elements, cancelling. And maps that respect XOR, which are known by what they make of the powers of 2.
--- Assumes nothing.
 use mathlib.Core.Path.{_≡_, refl, sym, ap, ap₂, _∙_}
 use mathlib.Core.List.{List, [], _∷_}
 use Prim.Native.Nat.{ℕ, zero, suc, _+_, _*_, _/_, _%_, _^_, _≤_, _<_}

@@ -1,5 +1,4 @@
 -- Lists of bytes as the standards and the paper speak of them: tabulated lists, big-endian numbers, XOR byte by byte.
--- Assumes nothing.
 use Prim.Native.Nat.{ℕ, zero, suc, _+_, _*_, _/_, _%_}
 use mathlib.Core.List.{List, [], _∷_, _++_}
 use mathlib.Core.Bool.{Bool, true, false, _&&_}

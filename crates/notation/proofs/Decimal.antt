@@ -1,4 +1,4 @@
--- Decimal text, written from its last digit to its first: what is still to be written and what stands already. Assumes nothing.
+-- Decimal text, written from its last digit to its first: what is still to be written and what stands already.
 use Prim.Native.Nat.{ℕ, zero, suc, _+_, _-_, _/_, _%_, _≤_, _<_}
 use mathlib.Core.Path.{_≡_, refl, _∙_}
 use mathlib.Core.Bool.{Bool, true, false, cond}

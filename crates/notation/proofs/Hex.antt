@@ -1,4 +1,4 @@
--- Laws of hexadecimal text: joined bytes, lengths. Assumes nothing.
+-- Laws of hexadecimal text: joined bytes, lengths.
 use Prim.Native.Nat.{ℕ, _+_, _*_, _/_, _%_, _≤_, _<_}
 use mathlib.Core.Path.{_≡_, refl, sym, ap, _∙_}
 use mathlib.Core.List.{List, [], _∷_, _++_, append-assoc}

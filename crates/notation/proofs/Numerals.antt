@@ -1,4 +1,4 @@
--- Laws of numerals: how a loop from the front decides a text of digits, and what a sign before it makes of it. Assumes nothing.
+-- Laws of numerals: how a loop from the front decides a text of digits, and what a sign before it makes of it.
 use Prim.Native.Nat.{ℕ, zero, suc, _+_, _-_, _*_, _^_, _≤_, _<_}
 use mathlib.Core.Path.{_≡_, refl, sym, ap, subst, _∙_}
 use mathlib.Core.Bool.{Bool, true, false, cond, not, _&&_, _||_}

@@ -1,4 +1,4 @@
--- Laws of texts put into lent bytes: one after another is the joined text, byte by byte or whole. Assumes nothing.
+-- Laws of texts put into lent bytes: one after another is the joined text, byte by byte or whole.
 use Prim.Native.Nat.{ℕ, suc, _+_, _≤_, _<_}
 use mathlib.Core.Path.{_≡_, sym, ap, _∙_}
 use mathlib.Core.List.{List, [], _∷_, _++_, append-assoc}

@@ -1,4 +1,4 @@
--- Reading hexadecimal text from the front: the bytes read so far, and what the rest of the text gives. Assumes nothing.
+-- Reading hexadecimal text from the front: the bytes read so far, and what the rest of the text gives.
 use Prim.Native.Nat.{ℕ, suc, _+_, _-_, _*_, _≤_, _<_}
 use mathlib.Core.Path.{_≡_, refl, sym, _∙_}
 use mathlib.Core.List.{List, [], _++_, append-assoc}

@@ -1,4 +1,4 @@
--- "Replay file": what a value on a line means, or that it means nothing. Assumes nothing.
+-- "Replay file": what a value on a line means, or that it means nothing.
 use Prim.Native.Nat.{ℕ, _+_, _-_, _*_, _^_}
 use mathlib.Core.Bool.{Bool, true, false, cond, not, _&&_, _||_}
 use mathlib.Core.List.{List, [], _∷_}

@@ -1,4 +1,4 @@
--- Text as bytes: ASCII words, decimal numbers, lower-case hexadecimal. Assumes nothing.
+-- Text as bytes: ASCII words, decimal numbers, lower-case hexadecimal.
 use Prim.Native.Nat.{ℕ, zero, suc, _+_, _/_, _%_}
 use Prim.Native.String.{String}
 use Prim.Native.String as S

@@ -1,4 +1,4 @@
--- What the code's values of a line stand for in the terms of Reading. No promise of a public call cites it. Assumes nothing.
+-- What the code's values of a line stand for in the terms of Reading. No promise of a public call cites it.
 use Prim.Native.Nat.{ℕ, _*_, _≤_, _^_}
 use mathlib.Core.Path.{_≡_}
 use mathlib.Core.Bool.{Bool, cond, _&&_}

@@ -1,4 +1,4 @@
--- What an inner function that writes into lent bytes from a place on promises. No promise of a public call cites it. Assumes nothing.
+-- What an inner function that writes into lent bytes from a place on promises. No promise of a public call cites it.
 use Prim.Native.Nat.{ℕ, _+_}
 use mathlib.Core.Path.{_≡_}
 use mathlib.Core.List.{List, _++_}

@@ -45,24 +45,7 @@ pub fn begins(text: &[u8], key: &[u8]) -> bool
     if text.len() < key.len() {
         return false;
     }
-    let mut i = 0;
-    while i < key.len() {
-        if text[i] != key[i] {
-            return false;
-        }
-        i += 1;
-    }
-    true
-}
-
-// Whether a text is a word.
-pub fn is(text: &[u8], word: &[u8]) -> bool
-    ensures { λ r. ⌜ r ≡ sameBytes (now (text .entry)) (now (word .entry)) ⌝ }
-{
-    if word.len() < text.len() {
-        return false;
-    }
-    begins(text, word)
+    octets::same(&text[..key.len()], key)
 }
 
 // A decimal number without leading zeros, of 32 bits.
@@ -148,10 +131,10 @@ fn above(n: u32) -> SignedNumeral
 pub fn flag(text: &[u8]) -> Switch
     ensures { λ r. ⌜ switchOf r ≡ flagOf (now (text .entry)) ⌝ }
 {
-    if is(text, b"0") {
+    if octets::same(text, b"0") {
         return Switch::Value(false);
     }
-    if is(text, b"1") {
+    if octets::same(text, b"1") {
         return Switch::Value(true);
     }
     Switch::Wrong

@@ -1,5 +1,5 @@
 -- What the public calls promise: where a size is not as asked they refuse and keep the lent bytes; where every size is, the
--- answer fills the lent bytes. Assumes nothing.
+-- answer fills the lent bytes.
 use mathlib.Core.Path.{_≡_, refl, sym, ap, _∙_}
 use mathlib.Core.Bool.{Bool, true, false, _&&_}
 use mathlib.Core.List.{List, _++_}

@@ -1,4 +1,4 @@
--- What the public calls give: the bytes of the standard, or refusal 7. Assumes nothing.
+-- What the public calls give: the bytes of the standard, or refusal 7.
 use Prim.Native.Nat.{ℕ}
 use mathlib.Core.Path.{_≡_}
 use mathlib.Core.Bool.{Bool, cond, _&&_}

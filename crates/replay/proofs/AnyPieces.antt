@@ -1,6 +1,5 @@
 -- Feeding the input in any pieces prints what `replay` gives for the whole. The idea: a state that reads a part of a line and then gets
 -- more bytes prints what the run over the lines of the part and those bytes gives; the part has no newline and is not too long.
--- Assumes nothing.
 use Prim.Native.Nat.{ℕ, suc, _+_, _≤_, _<_, zero-le}
 use mathlib.Core.Path.{_≡_, refl, sym, _∙_}
 use mathlib.Core.Bool.{Bool, true, false, cond}
@@ -8,14 +7,14 @@ use mathlib.Core.List.{List, [], _∷_, _++_, append-assoc, append-nil}
 use native.Mathlib.Omega.{arith}
 use lib.Dec.{eqb, ltb}
 use lib.ListN.{length, length-append}
-use borrow.Author.Tests.{ltb-true, ltb-false, lt-leb}
+use borrow.Author.Tests.{ltb-true, ltb-false, lt-leb, ne-eqb}
 use Rattle.laws.specs.Answer.{Result, gives, refuses}
 use Rattle.unit.specs.declared.TagUnit.{TagUnit}
 use Rattle.unit.specs.Outcome.{Outcome}
 use Rattle.tag.specs.Calls.{newUnit}
 use Rattle.notation.specs.Text.{newline}
 use Rattle.replay.specs.Event.{performed, printed, refusedText, malformedText}
-use Rattle.replay.specs.Replay.{Expected, Line, follows, brings, settles, breaks, judged, done, run, lines, File, mayEnd, longestLine, replay, begun, onto, event, power, components, volume, nonce, «data», tenths, on, level, keyBytes, id}
+use Rattle.replay.specs.Replay.{Expected, Line, follows, brings, settles, breaks, judged, done, run, lines, File, mayEnd, longestLine, replay, begun, onto, event, inside}
 use Rattle.replay.specs.Feeding.{State, reading, ended, Fed, fed, fedTo, byte, closed, finish, first, inPieces, whole, AnyPieces, beginning}
 
 -- Feeding goes over append
@@ -83,18 +82,8 @@ Sound (reading e n u part) = clean part × (length part ≤ longestLine)
 
 no-end : (e : Expected) (q r : List ℕ) → longestLine < length q → mayEnd e (q ++ r) ≡ false
 no-end event [] r h = absurd (omega arith)
-no-end event (b ∷ q) r h = refl
-no-end power q r h = refl
-no-end (components p) q r h = refl
-no-end (volume p c) q r h = refl
-no-end nonce q r h = refl
-no-end «data» q r h = refl
-no-end tenths q r h = refl
-no-end on q r h = refl
-no-end level q r h = refl
-no-end keyBytes q r h = refl
-no-end Expected.r q r h = refl
-no-end (id b) q r h = refl
+no-end event (b ∷ q) r h = ne-eqb (length ((b ∷ q) ++ r)) 0 (λ e. omega (arith, e))
+no-end (inside a) q r h = refl
 
 -- a line that is too long is malformed, closed or not
 too-long : (e : Expected) (n : ℕ) (u : TagUnit) (q : List ℕ) (ls : List (List ℕ)) (r : List ℕ) → longestLine < length q
@@ -120,7 +109,7 @@ nothing-more x bs = rw (fed-ended bs, append-nil)
 closing : (bs : List ℕ) → Onward bs → (l : Line) (n : ℕ) (u : TagUnit)
     → total (closed l n u) bs ≡ done l n u (λ e′ u′. over e′ (suc n) u′ (lines bs))
 unfolding closed done clean
-closing bs more (follows e) n u = more (reading e (suc n) u []) (tt, zero-le)
+closing bs more (follows a) n u = more (reading (inside a) (suc n) u []) (tt, zero-le)
 closing bs more (brings e) n u = rw (more (reading event (suc n) (performed e u .unit) []) (tt, zero-le))
 closing bs more (settles p c s) n u = settled (newUnit p c s) (newUnit p c s .result)
   where

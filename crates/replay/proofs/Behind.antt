@@ -1,4 +1,4 @@
--- What stands behind a key: read where the line begins with the key, and a line that breaks the order where it does not. Assumes nothing.
+-- What stands behind a key: read where the line begins with the key, and a line that breaks the order where it does not.
 use Prim.Native.Nat.{ℕ, _-_, _≤_}
 use mathlib.Core.Path.{_≡_, sym, ap, _∙_}
 use mathlib.Core.Bool.{Bool, true, false, cond}

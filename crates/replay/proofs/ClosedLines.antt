@@ -1,4 +1,4 @@
--- From a line that was read to what closing it does. Assumes nothing.
+-- From a line that was read to what closing it does.
 use Prim.Native.Nat.{ℕ, suc, _-_, _≤_, _<_}
 use mathlib.Core.Path.{_≡_, refl, ap}
 use mathlib.Core.Bool.{false}
@@ -17,14 +17,16 @@ use Rattle.unit.specs.declared.TagUnit.{TagUnit}
 use Rattle.unit.specs.declared.Reply.{Reply}
 use Rattle.unit.specs.declared.Reply.the-variants.{Done, Refused}
 use Rattle.replay.specs.declared.Run.{Run}
+use Rattle.replay.specs.declared.Awaited as code
 use Rattle.replay.specs.declared.Next.{Next}
+use Rattle.replay.specs.declared.Next.the-variants as next
 use Rattle.replay.specs.declared.lines.Line as lines
 use Rattle.replay.specs.declared.lines.Line.the-variants as told
 use Rattle.replay.specs.declared.lines.Told.{Told}
 use Rattle.replay.specs.Event.{refusedText}
-use Rattle.replay.specs.Replay.{Expected, event, Line, follows, breaks, taken, judged, longestLine, mostLines}
+use Rattle.replay.specs.Replay.{Awaited, event, inside, Line, follows, breaks, held, taken, judged, longestLine, mostLines}
 use Rattle.replay.specs.Feeding.{reading, ended, Fed, fedTo, closed, beginning}
-use Rattle.replay.specs.Session.{SoundRun, stateWith, expecting, expectedOf}
+use Rattle.replay.specs.Session.{SoundRun, stateWith, awaiting, expecting, expectedOf}
 use Rattle.replay.specs.Inner.{Closes, ClosesLine, moved, lineOf, Means, Says, SaysNumber}
 use Rattle.notation.proofs.Placed.{puts-nothing}
 
@@ -42,6 +44,10 @@ pub says-at : {next known : Next} (l : List ℕ) → next ≡ known → {t : Tol
     → Says (λ p c kept. taken (expecting known p c kept) l) t into → Says (λ p c kept. taken (expecting next p c kept) l) t into
 says-at l e s = rw e s
 
+pub says-of : {a known : code.Awaited} (l : List ℕ) → a ≡ known → {t : Told} {into : List ℕ}
+    → Says (λ p c kept. held (awaiting known p c kept) l) t into → Says (λ p c kept. held (awaiting a p c kept) l) t into
+says-of l e s = rw e s
+
 -- the line that the code told
 pub closes-told : (run : Run) (n : ℕ) (bytes : List ℕ) {what known : lines.Line} → what ≡ known → {at written : ℕ} {before out : List ℕ} {after : Run}
     → ClosesLine (lineOf known (run .power) (run .components) (take (run .filled) (run .r)) n bytes) run at before after written out
@@ -56,10 +62,10 @@ module _ (n : ℕ) (u : TagUnit) {at written : ℕ} {before : List ℕ} {run : R
   closes-fed e p = rw e at p
 
   -- a line that another is to follow prints nothing
-  pub closes-follow : (e : Expected) → stateWith run [] ≡ reading e (suc n) u [] → SoundRun run → written ≡ at
-      → Closes (closed (follows e) n u) at before run written before
+  pub closes-follow : (a : Awaited) → stateWith run [] ≡ reading (inside a) (suc n) u [] → SoundRun run → written ≡ at
+      → Closes (closed (follows a) n u) at before run written before
   unfolding closed
-  closes-follow e state sound w =
+  closes-follow a state sound w =
       record { stateIs = state; sound = sound; few = omega arith; puts = rw w (puts-nothing at before) }
 
 -- the settings: a new unit, or a refusal that ends the run
@@ -91,11 +97,12 @@ keeping p c bytes n run =
     }
 
 -- the run moved on to another line
-pub closes-moved : (e : Expected) (next : Next) (base : Run) {after : Run} {at written : ℕ} {before : List ℕ} → after ≡ moved next (base .unit) base
-    → base .ended ≡ false → base .number ≤ mostLines → base .filled ≤ 128 → expectedOf (moved next (base .unit) base) ≡ e → written ≡ at
-    → Closes (closed (follows e) (base .number) (base .unit)) at before after written before
-closes-moved e next base {after} {at} {written} {before} is going few fits means w =
-    closes-follow (base .number) (base .unit) e
+pub closes-moved : (a : Awaited) (awaited : code.Awaited) (base : Run) {after : Run} {at written : ℕ} {before : List ℕ}
+    → after ≡ moved (next.Inside awaited) (base .unit) base → base .ended ≡ false → base .number ≤ mostLines → base .filled ≤ 128
+    → awaiting awaited (base .power) (base .components) (take (base .filled) (base .r)) ≡ a → written ≡ at
+    → Closes (closed (follows a) (base .number) (base .unit)) at before after written before
+closes-moved a awaited base {after} {at} {written} {before} is going few fits means w =
+    closes-follow (base .number) (base .unit) a
     (rw (is, going, means, add-one))
     (rw is (record { numbered = omega arith; withinR = fits }))
     w

@@ -1,62 +1,23 @@
--- The end of the input: when nothing is missing, and what is promised of the lent bytes. Assumes nothing.
+-- The end of the input: when nothing is missing, and what is promised of the lent bytes.
 use Prim.Native.Nat.{ℕ, _≤_, _<_}
 use mathlib.Core.Path.{_≡_, refl, ap, _∙_}
-use mathlib.Core.Bool.{true, false}
-use mathlib.Core.Logic.{_⊎_, inl, inr}
-use mathlib.Core.List.{List, [], _∷_}
+use mathlib.Core.Bool.{Bool, true, false, cond}
+use mathlib.Core.List.{List, []}
 use native.Mathlib.Nat.{zero-add}
 use native.Mathlib.Omega.{arith}
-use lib.IntN.{ℤ}
+use lib.Dec.{eqb}
 use lib.ListN.{length, take, length-take}
-use borrow.Author.Tests.{le-leb, lt-leb}
-use Rattle.replay.specs.declared.Next.{Next}
+use borrow.Author.Tests.{le-leb, lt-leb, eq-eqb, ne-eqb, eqb-true, eqb-false}
+use Rattle.replay.specs.declared.Awaited.{Awaited}
 use Rattle.replay.specs.declared.Next.the-variants as next
 use Rattle.replay.specs.declared.Session.{Session}
 use Rattle.replay.specs.declared.Finished.the-variants as finished
 use Rattle.replay.specs.Event.{malformedText}
-use Rattle.replay.specs.Replay.{mayEnd}
+use Rattle.replay.specs.Replay.{longestLine}
 use Rattle.replay.specs.Feeding.{finish}
 use Rattle.notation.specs.Written.{Puts}
-use Rattle.replay.specs.Session.{stateOf, expecting, finishRoom, Finishes}
-use Rattle.replay.specs.Inner.{eventNext}
+use Rattle.replay.specs.Session.{stateOf, finishRoom, Finishes}
 use Rattle.notation.proofs.Placed.{placed-first, puts-nothing}
-
-module _ (n : Next) (p : ℤ) (c : ℕ) (b : List ℕ) where
-  may-end : eventNext n ≡ true → mayEnd (expecting n p c b) [] ≡ true
-  may-end h = go n h
-    where
-      go : (n : Next) → eventNext n ≡ true → mayEnd (expecting n p c b) [] ≡ true
-      go next.Event h = refl
-      go next.Power h = h
-      go next.Components h = h
-      go next.Volume h = h
-      go next.Nonce h = h
-      go next.Data h = h
-      go next.Tenths h = h
-      go next.On h = h
-      go next.Level h = h
-      go next.KeyBytes h = h
-      go next.R h = h
-      go next.Id h = h
-
-  may-not-end : (part : List ℕ) → (eventNext n ≡ false) ⊎ (0 < length part) → mayEnd (expecting n p c b) part ≡ false
-  may-not-end part h = go n part h
-    where
-      go : (n : Next) (part : List ℕ) → (eventNext n ≡ false) ⊎ (0 < length part) → mayEnd (expecting n p c b) part ≡ false
-      go next.Event [] (inl h) = h
-      go next.Event [] (inr h) = absurd (omega arith)
-      go next.Event (x ∷ part) h = refl
-      go next.Power part h = refl
-      go next.Components part h = refl
-      go next.Volume part h = refl
-      go next.Nonce part h = refl
-      go next.Data part h = refl
-      go next.Tenths part h = refl
-      go next.On part h = refl
-      go next.Level part h = refl
-      go next.KeyBytes part h = refl
-      go next.R part h = refl
-      go next.Id part h = refl
 
 module _ (s : Session) (before : List ℕ) where
   pub no-room : length before < finishRoom → Finishes s before finished.NoRoom before
@@ -75,22 +36,20 @@ module _ (s : Session) (before : List ℕ) where
     unfolding finish
     over h = with-room [] (rw h) (puts-nothing 0 before)
 
-    pub nothing-left : s .run .ended ≡ false → s .count ≡ 0 → eventNext (s .run .next) ≡ true → Finishes s before (finished.Wrote 0) before
-    unfolding finish
-    nothing-left going none event =
-        with-room []
-        (rw (going, none, may-end (s .run .next) (s .run .power) (s .run .components) (take (s .run .filled) (s .run .r)) event))
-        (puts-nothing 0 before)
-
-    pub malformed-left : {written : ℕ} {after : List ℕ} → s .run .ended ≡ false → length (s .line) ≡ 256
-        → (eventNext (s .run .next) ≡ false) ⊎ (0 < s .count) → Puts (malformedText (s .run .number)) 0 before written after
+    -- where an event could begin: nothing, or what stands after the last newline
+    pub event-left : {written : ℕ} {after : List ℕ} → s .run .ended ≡ false → s .run .next ≡ next.Event → length (s .line) ≡ longestLine
+        → Puts (cond (eqb (s .count) 0) [] (malformedText (s .run .number))) 0 before written after
         → Finishes s before (finished.Wrote written) after
     unfolding finish
-    malformed-left going long why puts =
-        with-room (malformedText (s .run .number))
-        (rw (going, may-not-end (s .run .next) (s .run .power) (s .run .components) (take (s .run .filled) (s .run .r)) (take (s .count) (s .line)) (reason why)))
-        puts
+    event-left going here long puts =
+        with-room (cond (eqb (s .count) 0) [] (malformedText (s .run .number))) (rw (going, here, cut (eqb (s .count) 0) refl)) puts
       where
-        reason : (eventNext (s .run .next) ≡ false) ⊎ (0 < s .count) → (eventNext (s .run .next) ≡ false) ⊎ (0 < length (take (s .count) (s .line)))
-        reason (inl h) = inl h
-        reason (inr h) = inr (omega (arith, length-take (s .count) (s .line)))
+        cut : (t : Bool) → eqb (s .count) 0 ≡ t → eqb (length (take (s .count) (s .line))) 0 ≡ t
+        cut true h = eq-eqb (length (take (s .count) (s .line))) 0 (omega (arith, eqb-true (s .count) 0 h, length-take (s .count) (s .line)))
+        cut false h = ne-eqb (length (take (s .count) (s .line))) 0 (λ e. eqb-false (s .count) 0 h (omega (arith, e, length-take (s .count) (s .line))))
+
+    -- inside the settings or an event a line is missing
+    pub inside-left : (a : Awaited) {written : ℕ} {after : List ℕ} → s .run .ended ≡ false → s .run .next ≡ next.Inside a
+        → Puts (malformedText (s .run .number)) 0 before written after → Finishes s before (finished.Wrote written) after
+    unfolding finish
+    inside-left a going here puts = with-room (malformedText (s .run .number)) (rw (going, here)) puts

@@ -1,5 +1,5 @@
 -- A host that begins, feeds and finishes has written the replay of its file: what the calls of `feed` took and wrote, one after another, is what
--- feeding the whole prints, and the law of any pieces joins that to `replay`. Assumes nothing.
+-- feeding the whole prints, and the law of any pieces joins that to `replay`.
 use Prim.Native.Nat.{ℕ}
 use mathlib.Core.Path.{_≡_, refl, sym, ap, _∙_}
 use mathlib.Core.Bool.{Bool, true, false, true≢false}

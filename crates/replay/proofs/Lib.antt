@@ -6,3 +6,4 @@ pub mod ClosedLines
 pub mod Pieces
 pub mod Ending
 pub mod Hosts
+pub mod Quiet

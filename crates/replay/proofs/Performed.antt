@@ -1,6 +1,6 @@
--- From what the tag's calls promise to what an event prints, and from there to a closed line. Assumes nothing.
+-- From what the tag's calls promise to what an event prints, and from there to a closed line.
 use Prim.Native.Nat.{ℕ, _+_, _≤_}
-use mathlib.Core.Path.{_≡_, sym, ap, _∙_}
+use mathlib.Core.Path.{_≡_, refl, sym, ap, _∙_}
 use mathlib.Core.List.{List, [], _∷_, _++_}
 use native.Mathlib.Numerals.{add-one}
 use native.Mathlib.Omega.{arith}
@@ -12,7 +12,8 @@ use Rattle.unit.specs.Outcome.{Outcome, Answers, Settles}
 use Rattle.unit.specs.declared.TagUnit.{TagUnit}
 use Rattle.unit.specs.declared.Reply.{Reply}
 use Rattle.unit.specs.declared.Reply.the-variants.{Done, Refused}
-use Rattle.tag.specs.Passes.{Passes}
+use Rattle.sizes.specs.Sizes.{answerRoom}
+use Rattle.time.specs.Passing.{Passes}
 use Rattle.replay.specs.declared.Run.{Run}
 use Rattle.replay.specs.declared.Next.the-variants as next
 use Rattle.replay.specs.Event.{Event, performed, printed, successText, bytesText, refusedText, notesText, elapsed}
@@ -22,6 +23,7 @@ use Rattle.replay.specs.Feeding.{closed}
 use Rattle.notation.specs.Written.{Puts}
 use Rattle.replay.specs.Session.{lineRoom}
 use Rattle.replay.specs.Inner.{Ready, ClosesLine, Performs, moved, answeredText, settledText, passedText, repliesWithin}
+use Rattle.replay.proofs.Quiet.{Quiet}
 use Rattle.replay.proofs.Texts.{length-bytes, length-refused, length-notes}
 use Rattle.notation.proofs.Decimal.{length-decimal}
 
@@ -46,16 +48,16 @@ module _ (o : Outcome) (e : Event) (title : List ℕ) where
       go (refuses k) (Refused r) h b = let same : number r ≡ k = cc in ap refusedText same
 
   -- one without
-  pub settles-printed : ((a : List ℕ) → successText e o a ≡ title) → {u : TagUnit} {reply : Reply}
+  pub settles-printed : successText e o [] ≡ title → Quiet o → {u : TagUnit} {reply : Reply}
       → Settles o u reply → settledText title reply ≡ printed e o (o .result)
   unfolding printed
-  settles-printed success {u} {reply} p = go (o .result) reply (p .endIs)
+  settles-printed success quiet {u} {reply} p = go (o .result) reply (p .endIs) (quiet .none)
     where
-      go : (res : Result) (reply : Reply) → endOf reply ≡ ending res → settledText title reply ≡ printed e o res
-      go (gives a) (Done n) h = sym (success a)
-      go (gives a) (Refused r) h = let z : _≡_ {A = ℕ} 0 1 = cc in absurd (omega arith)
-      go (refuses k) (Done n) h = let z : _≡_ {A = ℕ} 0 1 = cc in absurd (omega arith)
-      go (refuses k) (Refused r) h = let same : number r ≡ k = cc in ap refusedText same
+      go : (res : Result) (reply : Reply) → endOf reply ≡ ending res → ((a : List ℕ) → res ≡ gives a → a ≡ []) → settledText title reply ≡ printed e o res
+      go (gives a) (Done n) h none = rw (none a refl) (sym success)
+      go (gives a) (Refused r) h none = let z : _≡_ {A = ℕ} 0 1 = cc in absurd (omega arith)
+      go (refuses k) (Done n) h none = let z : _≡_ {A = ℕ} 0 1 = cc in absurd (omega arith)
+      go (refuses k) (Refused r) h none = let same : number r ≡ k = cc in ap refusedText same
 
 -- time
 pub passes-printed : (o : Outcome) (n : ℕ) {u : TagUnit} {reply : Reply} {at : ℕ} {before after : List ℕ}
@@ -87,7 +89,7 @@ answers-within {o} {u} {reply} {before} {after} room p size = go (o .result) rep
     go (refuses k) (Refused r) h b = tt
 
 module _ (title : List ℕ) (short : length title ≤ 32) where
-  pub length-answered : (reply : Reply) (answer : List ℕ) → length answer ≡ 42 → repliesWithin reply 42 → length (answeredText title reply answer) ≤ lineRoom
+  pub length-answered : (reply : Reply) (answer : List ℕ) → length answer ≡ answerRoom → repliesWithin reply answerRoom → length (answeredText title reply answer) ≤ lineRoom
   length-answered (Done n) answer size within =
       let cut : length (take n answer) ≡ n = length-take-le n answer (omega arith) in
       omega (arith, length-append title (bytesText (take n answer)), length-bytes (take n answer) (omega arith))
@@ -97,7 +99,7 @@ module _ (title : List ℕ) (short : length title ≤ 32) where
   length-settled (Done n) = omega arith
   length-settled (Refused r) = omega (arith, length-refused (number r))
 
-pub length-passed : (at seconds : ℕ) (reply : Reply) (answer : List ℕ) → length answer ≡ 42 → repliesWithin reply 42
+pub length-passed : (at seconds : ℕ) (reply : Reply) (answer : List ℕ) → length answer ≡ answerRoom → repliesWithin reply answerRoom
     → length (passedText at seconds reply answer) ≤ lineRoom
 length-passed at seconds (Done n) answer size within =
     let cut : length (take n answer) ≡ n = length-take-le n answer (omega arith) in
@@ -113,31 +115,31 @@ length-passed at seconds (Refused r) answer size within = omega (arith, length-r
 -- what a call of the tag answers is what its event prints
 module _ (e : Event) (u : TagUnit) (title : List ℕ) (short : length title ≤ 32) {unit unit′ : TagUnit} {reply : Reply} {at written : ℕ} {before out : List ℕ} where
   pub performs-answered : ((o : Outcome) (a : List ℕ) → successText e o a ≡ title ++ bytesText a) → {lent answer : List ℕ}
-      → Answers (performed e u) unit reply lent answer → length answer ≡ 42
+      → Answers (performed e u) unit reply lent answer → length answer ≡ answerRoom
       → (unit′ ≡ unit) × Puts (answeredText title reply answer) at before written out → Performs e u at before unit′ written out
   performs-answered success {lent} {answer} p size done =
       let prints = answers-printed (performed e u) e title (success (performed e u)) p in
       record {
         unitIs = done .0 ∙ p .unitIs;
-        few = rw prints at (length-answered title short reply answer size (answers-within 42 p size));
+        few = rw prints at (length-answered title short reply answer size (answers-within answerRoom p size));
         puts = rw prints at (done .1);
       }
 
-  pub performs-settled : ((o : Outcome) (a : List ℕ) → successText e o a ≡ title) → Settles (performed e u) unit reply
+  pub performs-settled : ((o : Outcome) → successText e o [] ≡ title) → Quiet (performed e u) → Settles (performed e u) unit reply
       → (unit′ ≡ unit) × Puts (settledText title reply) at before written out → Performs e u at before unit′ written out
-  performs-settled success p done =
-      let prints = settles-printed (performed e u) e title (success (performed e u)) p in
+  performs-settled success quiet p done =
+      let prints = settles-printed (performed e u) e title (success (performed e u)) quiet p in
       record { unitIs = done .0 ∙ p .unitIs; few = rw prints at (length-settled title short reply); puts = rw prints at (done .1) }
 
 pub performs-passed : (n : ℕ) (u : TagUnit) {unit unit′ : TagUnit} {reply : Reply} {tenth at written : ℕ} {lent answer before out : List ℕ}
-    → Passes (performed (elapsed n) u) unit reply tenth lent answer → length answer ≡ 42
+    → Passes (performed (elapsed n) u) unit reply tenth lent answer → length answer ≡ answerRoom
     → (unit′ ≡ unit) × Puts (passedText tenth (unit .clock .seconds) reply answer) at before written out
     → Performs (elapsed n) u at before unit′ written out
 performs-passed n u {unit} {unit′} {reply} {tenth} {at} {written} {lent} {answer} p size done =
     let prints = passes-printed (performed (elapsed n) u) n p in
     record {
       unitIs = done .0 ∙ p .answers .unitIs;
-      few = rw prints at (length-passed tenth (unit .clock .seconds) reply answer size (answers-within 42 (p .answers) size));
+      few = rw prints at (length-passed tenth (unit .clock .seconds) reply answer size (answers-within answerRoom (p .answers) size));
       puts = rw prints at (done .1);
     }
 

@@ -1,4 +1,4 @@
--- A piece that is taken byte by byte: what holds after some bytes, what one more does, and that an ended run takes the rest. Assumes nothing.
+-- A piece that is taken byte by byte: what holds after some bytes, what one more does, and that an ended run takes the rest.
 use Prim.Native.Nat.{ℕ, suc, _+_, _-_, _≤_, _<_}
 use mathlib.Core.Path.{_≡_, refl, sym, ap, _∙_}
 use mathlib.Core.Bool.{true, false}

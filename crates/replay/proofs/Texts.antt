@@ -1,9 +1,10 @@
--- The printed texts: how long they are, and what they are with and without answer bytes. Assumes nothing.
+-- The printed texts: how long they are, and what they are with and without answer bytes.
 use Prim.Native.Nat.{ℕ, _+_, _≤_, _<_}
 use mathlib.Core.Path.{_≡_, refl}
 use mathlib.Core.List.{List, [], _∷_, _++_}
 use native.Mathlib.Omega.{arith}
 use lib.ListN.{length, length-append}
+use Rattle.sizes.specs.Sizes.{answerRoom}
 use Rattle.notation.specs.Text.{decimal, decimalIn, hex, ascii, newline}
 use Rattle.replay.specs.Event.{malformedText, refusedText, bytesText, notesText, line}
 use Rattle.notation.proofs.Decimal.{length-decimal}
@@ -25,7 +26,7 @@ pub bytes-some : (a : List ℕ) → 0 < length a → line "bytes=" (hex a) ≡ b
 bytes-some [] h = absurd (omega arith)
 bytes-some (x ∷ a) h = refl
 
-pub length-bytes : (a : List ℕ) → length a ≤ 42 → length (bytesText a) ≤ 91
+pub length-bytes : (a : List ℕ) → length a ≤ answerRoom → length (bytesText a) ≤ 91
 length-bytes [] h = omega arith
 length-bytes (x ∷ a) h = omega (arith, length-hex (x ∷ a), length-append (hex (x ∷ a)) (newline ∷ []))
 
@@ -43,7 +44,7 @@ pub notes-some : (at : ℕ) (a : List ℕ) → 0 < length a
 notes-some at [] h = absurd (omega arith)
 notes-some at (x ∷ a) h = rw one
 
-pub length-notes : (at : ℕ) (a : List ℕ) → length a ≤ 42 → length (notesText at a) ≤ 113
+pub length-notes : (at : ℕ) (a : List ℕ) → length a ≤ answerRoom → length (notesText at a) ≤ 113
 unfolding decimal decimalIn
 length-notes at [] h = omega arith
 length-notes at (x ∷ a) h =

@@ -1,36 +1,23 @@
--- "Replay file": the events, what each does on the unit, and what is printed of it. "Answer room is always 42." Assumes nothing.
+-- "Replay file": the events, what each does on the unit, and what is printed of it. "Answer room is always 42."
 use Prim.Native.Nat.{ℕ}
 use Prim.Native.String.{String}
-use mathlib.Core.Bool.{Bool}
 use mathlib.Core.List.{List, [], _∷_, _++_}
 use Rattle.laws.specs.Answer.{Result, gives, refuses}
 use Rattle.unit.specs.declared.TagUnit.{TagUnit}
-use Rattle.unit.specs.Numbers.{answerRoom}
+use Rattle.sizes.specs.Sizes.{answerRoom}
 use Rattle.unit.specs.Outcome.{Outcome}
 use Rattle.tag.specs.Calls as tag
+use Rattle.tag.specs.Calls.{Call, read, write, button, pairing, battery, accountKey, identifier, frame, call}
 use Rattle.notation.specs.Text.{ascii, newline, decimal, hex}
 
+-- a call of the tag, or time
 pub data Event : Type 0 where
-  read : (nonce : List ℕ) → Event
-  write : (w : List ℕ) → Event
+  asks : (c : Call) → Event
   elapsed : (tenths : ℕ) → Event
-  button : Event
-  pairing : (on : Bool) → Event
-  battery : (level : ℕ) → Event
-  key : (bytes : List ℕ) → Event
-  identifier : (r id : List ℕ) → Event
-  frame : Event
 
 unfoldable pub performed : Event → TagUnit → Outcome
-performed (read nonce) u = tag.read nonce answerRoom u
-performed (write w) u = tag.write w answerRoom u
+performed (asks c) u = call c answerRoom u
 performed (elapsed n) u = tag.elapsed n answerRoom u
-performed button u = tag.button answerRoom u
-performed (pairing on) u = tag.setPairing on u
-performed (battery level) u = tag.setBattery level u
-performed (key k) u = tag.addKey k u
-performed (identifier r id) u = tag.lendIdentifier r id u
-performed frame u = tag.frame answerRoom u
 
 -- a printed line: a key with its =, a value, and a newline
 abbrev pub line : String → List ℕ → List ℕ
@@ -54,18 +41,21 @@ abbrev pub notesText : ℕ → List ℕ → List ℕ
 notesText ended [] = line "notes=" (decimal 0)
 notesText ended (b ∷ bs) = line "notes=" (decimal 1) ++ (line "at=" (decimal ended) ++ line "bytes=" (hex (b ∷ bs)))
 
+abbrev pub nameOf : Call → String
+nameOf (read nonce) = "read"
+nameOf (write w) = "write"
+nameOf button = "button"
+nameOf (pairing on) = "pairing"
+nameOf (battery level) = "battery"
+nameOf (accountKey k) = "key"
+nameOf (identifier r id) = "identifier"
+nameOf frame = "frame"
+
 -- "A success prints answer= and the event's name"
 unfoldable pub successText : Event → Outcome → List ℕ → List ℕ
-successText (read nonce) o answer = line "answer=" (ascii "read") ++ bytesText answer
-successText (write w) o answer = line "answer=" (ascii "write") ++ bytesText answer
+successText (asks c) o answer = line "answer=" (ascii (nameOf c)) ++ bytesText answer
 successText (elapsed n) o answer =
     line "answer=" (ascii "elapsed") ++ (notesText (o .ended) answer ++ line "clock=" (decimal (o .unit .clock .seconds)))
-successText button o answer = line "answer=" (ascii "button") ++ bytesText answer
-successText (pairing on) o answer = line "answer=" (ascii "pairing")
-successText (battery level) o answer = line "answer=" (ascii "battery")
-successText (key k) o answer = line "answer=" (ascii "key")
-successText (identifier r id) o answer = line "answer=" (ascii "identifier")
-successText frame o answer = line "answer=" (ascii "frame") ++ bytesText answer
 
 unfoldable pub printed : Event → Outcome → Result → List ℕ
 printed e o (gives answer) = successText e o answer

@@ -1,5 +1,4 @@
 -- The replay fed in pieces: a state that is fed one byte after another and prints as it goes. A law (proofs) joins it to `replay`.
--- Assumes nothing.
 use Prim.Native.Nat.{ℕ, suc, _+_}
 use mathlib.Core.Path.{_≡_}
 use mathlib.Core.Bool.{cond}
@@ -9,10 +8,11 @@ use lib.ListN.{length}
 use Rattle.laws.specs.Answer.{Result, gives, refuses}
 use Rattle.unit.specs.declared.TagUnit.{TagUnit}
 use Rattle.unit.specs.Outcome.{Outcome}
-use Rattle.tag.specs.Calls.{newUnit, noUnit}
+use Rattle.unit.specs.Change.{noUnit}
+use Rattle.tag.specs.Calls.{newUnit}
 use Rattle.notation.specs.Text.{newline}
 use Rattle.replay.specs.Event.{performed, printed, refusedText, malformedText}
-use Rattle.replay.specs.Replay.{Expected, power, event, Line, follows, brings, settles, breaks, judged, longestLine, mayEnd, replay}
+use Rattle.replay.specs.Replay.{Expected, power, event, inside, Line, follows, brings, settles, breaks, judged, longestLine, mayEnd, replay}
 
 -- A run that goes on, with what is expected, the number of the line that is being read, its bytes so far, and the unit; or one that ended
 pub data State : Type 0 where
@@ -33,7 +33,7 @@ beginning o (refuses k) n = fedTo ended (refusedText k)
 
 -- a line is closed
 unfoldable pub closed : Line → ℕ → TagUnit → Fed
-closed (follows e) n u = fedTo (reading e (suc n) u []) []
+closed (follows a) n u = fedTo (reading (inside a) (suc n) u []) []
 closed (brings e) n u = fedTo (reading event (suc n) (performed e u .unit) []) (printed e (performed e u) (performed e u .result))
 closed (settles p c s) n u = beginning (newUnit p c s) (newUnit p c s .result) n
 closed breaks n u = fedTo ended (malformedText n)
@@ -56,7 +56,7 @@ finish ended = []
 finish (reading e n u part) = cond (mayEnd e part) [] (malformedText n)
 
 abbrev pub first : State
-first = reading power 1 noUnit []
+first = reading (inside power) 1 noUnit []
 
 -- what feeding these pieces, one after another, prints in total
 unfoldable pub inPieces : List (List ℕ) → State → List ℕ

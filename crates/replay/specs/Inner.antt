@@ -1,4 +1,4 @@
--- What the inner functions promise, over the types of the code. No promise of a public call cites it. Assumes nothing.
+-- What the inner functions promise, over the types of the code. No promise of a public call cites it.
 use Prim.Native.Nat.{ℕ, _+_, _≤_}
 use mathlib.Core.Path.{_≡_}
 use mathlib.Core.Bool.{Bool, true, false}
@@ -11,7 +11,6 @@ use Rattle.unit.specs.declared.TagUnit.{TagUnit}
 use Rattle.unit.specs.declared.Reply.{Reply}
 use Rattle.unit.specs.declared.Reply.the-variants as reply
 use Rattle.replay.specs.declared.Next.{Next}
-use Rattle.replay.specs.declared.Next.the-variants as next
 use Rattle.replay.specs.declared.Run.{Run}
 use Rattle.replay.specs.declared.events.Ask.{Ask}
 use Rattle.replay.specs.declared.events.Ask.the-variants as ask
@@ -25,11 +24,12 @@ use Rattle.replay.specs.declared.lines.Told.{Told}
 use Rattle.replay.specs.declared.Session.{Session}
 use Rattle.notation.specs.Written.{Puts}
 use Rattle.notation.specs.Text.{ascii, decimal}
-use Rattle.replay.specs.Event.{Event, read, write, elapsed, button, pairing, battery, key, identifier, frame, performed, printed, line, bytesText, notesText, refusedText}
+use Rattle.tag.specs.Calls.{Call, read, write, button, pairing, battery, accountKey, identifier, frame}
+use Rattle.replay.specs.Event.{Event, asks, elapsed, performed, printed, line, bytesText, notesText, refusedText}
 use Rattle.notation.specs.Reading.{after}
 use Rattle.replay.specs.Replay.{Line, follows, brings, settles, breaks, given, power, components, volume, r, id, longestLine, mostLines}
 use Rattle.replay.specs.Feeding.{ended, Fed, byte, closed}
-use Rattle.replay.specs.Session.{Sound, SoundRun, expecting, lineRoom, stateOf, stateWith}
+use Rattle.replay.specs.Session.{Sound, SoundRun, awaiting, lineRoom, stateOf, stateWith}
 
 -- a test of soundness
 pub record SoundBy (s : Session) (answer : Bool) : Type 0 where
@@ -58,21 +58,21 @@ pub record Closing (run : Run) (line : List ℕ) (at : ℕ) (out : List ℕ) : T
   pub room : at + lineRoom ≤ length out
 
 -- what an event of the code stands for, with its number, an identifier's r, and its bytes, which stand beside it
-abbrev pub askOf : Ask → List ℕ → Event
+abbrev pub askOf : Ask → List ℕ → Call
 askOf ask.Read b = read b
-askOf ask.Write b = write b
+askOf ask.Write b = write (record { bytes = b })
 askOf ask.Button b = button
 askOf ask.Frame b = frame
 
-abbrev pub settingOf : Setting → ℕ → List ℕ → List ℕ → Event
+abbrev pub settingOf : Setting → ℕ → List ℕ → List ℕ → Call
 settingOf (setting.Pairing flag) n kept b = pairing flag
 settingOf setting.Battery n kept b = battery n
-settingOf setting.Key n kept b = key b
+settingOf setting.Key n kept b = accountKey b
 settingOf setting.Identifier n kept b = identifier kept b
 
 abbrev pub eventOf : code.Event → ℕ → List ℕ → List ℕ → Event
-eventOf (event.Asks a) n kept b = askOf a b
-eventOf (event.Sets s) n kept b = settingOf s n kept b
+eventOf (event.Asks a) n kept b = asks (askOf a b)
+eventOf (event.Sets s) n kept b = asks (settingOf s n kept b)
 eventOf event.Elapsed n kept b = elapsed n
 
 -- and a line of the code, with what was read before it, its number and its bytes
@@ -80,7 +80,7 @@ abbrev pub lineOf : lines.Line → ℤ → ℕ → List ℕ → ℕ → List ℕ
 lineOf (told.Power z) p c kept n b = follows (components z)
 lineOf told.Components p c kept n b = follows (volume p n)
 lineOf told.Volume p c kept n b = settles p c n
-lineOf (told.Follows next) p c kept n b = follows (expecting next p c kept)
+lineOf (told.Follows a) p c kept n b = follows (awaiting a p c kept)
 lineOf told.R p c kept n b = follows (id b)
 lineOf (told.Brings e) p c kept n b = brings (eventOf e n kept b)
 lineOf told.Breaks p c kept n b = breaks
@@ -161,17 +161,3 @@ pub record Takes (s : Session) (b at : ℕ) (before : List ℕ) (session : Sessi
   pub few : length (byte b (stateOf s) .printed) ≤ lineRoom
   pub puts : Puts (byte b (stateOf s) .printed) at before written after
   pub lineStays : length (s .line) ≡ longestLine → length (session .line) ≡ longestLine
-
-abbrev pub eventNext : Next → Bool
-eventNext next.Event = true
-eventNext next.Power = false
-eventNext next.Components = false
-eventNext next.Volume = false
-eventNext next.Nonce = false
-eventNext next.Data = false
-eventNext next.Tenths = false
-eventNext next.On = false
-eventNext next.Level = false
-eventNext next.KeyBytes = false
-eventNext next.R = false
-eventNext next.Id = false

@@ -1,4 +1,4 @@
--- A session of the code as a state of the feeding, and what the public calls promise. Assumes nothing.
+-- A session of the code as a state of the feeding, and what the public calls promise.
 use Prim.Native.Nat.{ℕ, suc, _+_, _-_, _≤_, _<_}
 use mathlib.Core.Path.{_≡_}
 use mathlib.Core.Bool.{Bool, true, false, cond}
@@ -8,28 +8,33 @@ use lib.ListN.{length, take, drop}
 use lib.IntN.{ℤ}
 use Rattle.replay.specs.declared.Next.{Next}
 use Rattle.replay.specs.declared.Next.the-variants as next
+use Rattle.replay.specs.declared.Awaited as code
+use Rattle.replay.specs.declared.Awaited.the-variants as awaited
 use Rattle.replay.specs.declared.Run.{Run}
 use Rattle.replay.specs.declared.Session.{Session}
 use Rattle.replay.specs.declared.Finished.{Finished}
 use Rattle.replay.specs.declared.Finished.the-variants as finished
 use Rattle.replay.specs.Replay as replay
-use Rattle.replay.specs.Replay.{Expected, power, components, volume, nonce, «data», tenths, on, level, keyBytes, r, id, longestLine, mostLines}
+use Rattle.replay.specs.Replay.{Awaited, Expected, inside, power, components, volume, nonce, «data», tenths, on, level, keyBytes, r, id, longestLine, mostLines}
 use Rattle.replay.specs.Feeding.{State, reading, ended, byte, fed, finish, first}
 
 -- what is expected, with what was read before it
+abbrev pub awaiting : code.Awaited → ℤ → ℕ → List ℕ → Awaited
+awaiting awaited.Power p c b = power
+awaiting awaited.Components p c b = components p
+awaiting awaited.Volume p c b = volume p c
+awaiting awaited.Nonce p c b = nonce
+awaiting awaited.Data p c b = «data»
+awaiting awaited.Tenths p c b = tenths
+awaiting awaited.On p c b = on
+awaiting awaited.Level p c b = level
+awaiting awaited.KeyBytes p c b = keyBytes
+awaiting awaited.R p c b = r
+awaiting awaited.Id p c b = id b
+
 abbrev pub expecting : Next → ℤ → ℕ → List ℕ → Expected
-expecting next.Power p c b = power
-expecting next.Components p c b = components p
-expecting next.Volume p c b = volume p c
 expecting next.Event p c b = replay.event
-expecting next.Nonce p c b = nonce
-expecting next.Data p c b = «data»
-expecting next.Tenths p c b = tenths
-expecting next.On p c b = on
-expecting next.Level p c b = level
-expecting next.KeyBytes p c b = keyBytes
-expecting next.R p c b = r
-expecting next.Id p c b = id b
+expecting (next.Inside a) p c b = inside (awaiting a p c b)
 
 abbrev pub expectedOf : Run → Expected
 expectedOf run = expecting (run .next) (run .power) (run .components) (take (run .filled) (run .r))

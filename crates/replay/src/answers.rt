@@ -2,6 +2,7 @@
 ghost use mathlib.Core.Path.{_≡_};
 ghost use Prim.Native.Nat.{_+_, _≤_};
 ghost use lib.ListN.{length, take};
+ghost use Rattle.sizes.specs.Sizes.{answerRoom};
 ghost use Rattle.unit.specs.Refusals.{number};
 ghost use Rattle.replay.specs.Event.{refusedText, malformedText};
 ghost use Rattle.replay.specs.Feeding.{fedTo, ended};
@@ -14,11 +15,12 @@ ghost use mathlib.Core.List.{_++_};
 use crate::Progress;
 use crate::Run;
 use notation::text;
-use tag::Passed;
+use time::Passed;
 use unit::Refusal;
 use unit::Reply;
 use unit::Step;
 use unit::TagUnit;
+use unit::end;
 
 // The unit after an event, and the next place.
 pub struct Performed {
@@ -26,28 +28,11 @@ pub struct Performed {
     pub written: usize,
 }
 
-// The number of a refusal in the paper's list.
-fn code(refusal: Refusal) -> u8
-    ensures { λ r. ⌜ r ≡ number refusal ⌝ }
-{
-    match refusal {
-        Refusal::NotAuthenticated => 0x80,
-        Refusal::InvalidValue => 0x81,
-        Refusal::NoConsent => 0x82,
-        Refusal::OutOfRange => 1,
-        Refusal::NotWellFormed => 2,
-        Refusal::WrongNonce => 3,
-        Refusal::WrongAccountKey => 4,
-        Refusal::NoFrame => 5,
-        Refusal::NoRoom => 6,
-    }
-}
-
 pub fn refused(out: &mut [u8], at: usize, refusal: Refusal) -> usize
     requires { ⌜ at + 256 ≤ length (now out) ⌝ }
     ensures { λ r. ⌜ Puts (refusedText (number refusal)) at (now (out .entry)) r (now (out .exit)) ⌝ }
 {
-    let one = [code(refusal)];
+    let one = [end::number(refusal)];
     text::hex_line(out, at, b"answer=refused\ncode=", &one)
 }
 
@@ -75,7 +60,7 @@ pub fn breaks(run: Run, out: &mut [u8], at: usize) -> Progress
 
 // bytes= with the bytes, where there are any.
 fn bytes(out: &mut [u8], at: usize, answer: &[u8]) -> usize
-    requires { ⌜ (length (now answer) ≤ 42) × (at + 128 ≤ length (now out)) ⌝ }
+    requires { ⌜ (length (now answer) ≤ answerRoom) × (at + 128 ≤ length (now out)) ⌝ }
     ensures { λ r. ⌜ Puts (bytesText (now (answer .entry))) at (now (out .entry)) r (now (out .exit)) ⌝ }
 {
     if answer.len() == 0 {
@@ -86,7 +71,7 @@ fn bytes(out: &mut [u8], at: usize, answer: &[u8]) -> usize
 
 // A success: its title, and the answer bytes that were written.
 fn success(out: &mut [u8], at: usize, title: &[u8], answer: &[u8], count: usize) -> usize
-    requires { ⌜ (length (now title) ≤ 32) × ((length (now answer) ≡ 42) × ((count ≤ 42) × (at + 256 ≤ length (now out)))) ⌝ }
+    requires { ⌜ (length (now title) ≤ 32) × ((length (now answer) ≡ answerRoom) × ((count ≤ answerRoom) × (at + 256 ≤ length (now out)))) ⌝ }
     ensures { λ r. ⌜ Puts (now (title .entry) ++ bytesText (take count (now (answer .entry)))) at (now (out .entry)) r (now (out .exit)) ⌝ }
 {
     let next = text::put(out, at, title);
@@ -95,7 +80,7 @@ fn success(out: &mut [u8], at: usize, title: &[u8], answer: &[u8], count: usize)
 
 // The end of an event with answer bytes.
 pub fn answered(step: Step, title: &[u8], answer: &[u8], out: &mut [u8], at: usize) -> Performed
-    requires { ⌜ (length (now title) ≤ 32) × ((length (now answer) ≡ 42) × ((repliesWithin (step .reply) 42) × (at + 256 ≤ length (now out)))) ⌝ }
+    requires { ⌜ (length (now title) ≤ 32) × ((length (now answer) ≡ answerRoom) × ((repliesWithin (step .reply) answerRoom) × (at + 256 ≤ length (now out)))) ⌝ }
     ensures { λ r. ⌜ (r .unit ≡ step .unit) × Puts (answeredText (now (title .entry)) (step .reply) (now (answer .entry))) at (now (out .entry)) (r .written) (now (out .exit)) ⌝ }
 {
     let unit = step.unit;
@@ -133,7 +118,7 @@ pub fn settled(step: Step, title: &[u8], out: &mut [u8], at: usize) -> Performed
 
 // notes= 0, or 1 with the tenth at which a ring ended and its notice.
 fn notes(out: &mut [u8], at: usize, tenth: u32, answer: &[u8]) -> usize
-    requires { ⌜ (length (now answer) ≤ 42) × (at + 160 ≤ length (now out)) ⌝ }
+    requires { ⌜ (length (now answer) ≤ answerRoom) × (at + 160 ≤ length (now out)) ⌝ }
     ensures { λ r. ⌜ Puts (notesText tenth (now (answer .entry))) at (now (out .entry)) r (now (out .exit)) ⌝ }
 {
     if answer.len() == 0 {
@@ -152,7 +137,7 @@ fn elapsed(
     answer: &[u8],
     count: usize,
 ) -> usize
-    requires { ⌜ (length (now answer) ≡ 42) × ((count ≤ 42) × (at + 256 ≤ length (now out))) ⌝ }
+    requires { ⌜ (length (now answer) ≡ answerRoom) × ((count ≤ answerRoom) × (at + 256 ≤ length (now out))) ⌝ }
     ensures { λ r. ⌜ Puts (elapsedText tenth seconds (take count (now (answer .entry)))) at (now (out .entry)) r (now (out .exit)) ⌝ }
 {
     let next = text::put(out, at, b"answer=elapsed\n");
@@ -162,7 +147,7 @@ fn elapsed(
 
 // The end of time.
 pub fn passed(p: Passed, answer: &[u8], out: &mut [u8], at: usize) -> Performed
-    requires { ⌜ (length (now answer) ≡ 42) × ((repliesWithin (p .reply) 42) × (at + 256 ≤ length (now out))) ⌝ }
+    requires { ⌜ (length (now answer) ≡ answerRoom) × ((repliesWithin (p .reply) answerRoom) × (at + 256 ≤ length (now out))) ⌝ }
     ensures { λ r. ⌜ (r .unit ≡ p .unit) × Puts (passedText (p .ended) (p .unit .clock .seconds) (p .reply) (now (answer .entry))) at (now (out .entry)) (r .written) (now (out .exit)) ⌝ }
 {
     let unit = p.unit;

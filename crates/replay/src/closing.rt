@@ -2,9 +2,11 @@
 ghost use mathlib.Core.Path.{_≡_};
 ghost use Prim.Native.Nat.{_≤_};
 ghost use lib.ListN.{take};
+ghost use Rattle.replay.specs.declared.Next.the-variants as next;
 ghost use Rattle.replay.specs.Replay as replay;
 ghost use Rattle.replay.specs.Session.{expectedOf};
 ghost use Rattle.replay.specs.Inner.{Ready, Closing, ClosesLine, moved, lineOf, eventOf};
+use crate::Awaited;
 use crate::MOST_LINES;
 use crate::Next;
 use crate::Progress;
@@ -49,20 +51,20 @@ fn act(
         Line::Power(p) => {
             let mut read = run;
             read.power = p;
-            follow(read, Next::Components, at)
+            follow(read, Awaited::Components, at)
         }
         Line::Components => {
             let mut read = run;
             read.components = number;
-            follow(read, Next::Volume, at)
+            follow(read, Awaited::Volume, at)
         }
         Line::Volume => settle(run, number, out, at),
-        Line::Follows(next) => follow(run, next, at),
+        Line::Follows(awaited) => follow(run, awaited, at),
         Line::R => {
             let mut read = run;
             read.r = bytes;
             read.filled = count;
-            follow(read, Next::Id, at)
+            follow(read, Awaited::Id, at)
         }
         Line::Brings(event) => bring(run, event, number, &bytes[..count], out, at),
         Line::Breaks => answers::breaks(run, out, at),
@@ -88,13 +90,13 @@ fn advance(run: Run, next: Next, unit: TagUnit) -> Run
 }
 
 // The same unit at the next line.
-fn follow(run: Run, next: Next, at: usize) -> Progress
+fn follow(run: Run, awaited: Awaited, at: usize) -> Progress
     requires { ⌜ run .number ≤ replay.mostLines ⌝ }
-    ensures { λ r. ⌜ (r .run ≡ moved next (run .unit) run) × (r .written ≡ at) ⌝ }
+    ensures { λ r. ⌜ (r .run ≡ moved (next.Inside awaited) (run .unit) run) × (r .written ≡ at) ⌝ }
 {
     let unit = run.unit;
     Progress {
-        run: advance(run, next, unit),
+        run: advance(run, Next::Inside(awaited), unit),
         written: at,
     }
 }

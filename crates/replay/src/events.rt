@@ -1,4 +1,4 @@
-// Events: each is one call of the tag, and prints its answer. Answer room is always 42.
+// Events: each is one call of the tag, and prints its answer. Answer room is always ANSWER_ROOM.
 ghost use Prim.Native.Nat.{_+_, _≤_};
 ghost use lib.ListN.{length};
 ghost use Rattle.replay.specs.Event as event;
@@ -6,6 +6,7 @@ ghost use Rattle.replay.specs.Session.{lineRoom};
 ghost use Rattle.replay.specs.Inner.{askOf, settingOf, eventOf, Performs};
 use crate::answers;
 use crate::answers::Performed;
+use sizes::ANSWER_ROOM;
 use unit::TagUnit;
 
 // An event that the tag answers with bytes.
@@ -52,9 +53,9 @@ pub fn perform(
 
 fn asked(u: TagUnit, what: Ask, bytes: &[u8], out: &mut [u8], at: usize) -> Performed
     requires { ⌜ at + lineRoom ≤ length (now out) ⌝ }
-    ensures { λ p. ⌜ Performs (askOf what (now (bytes .entry))) u at (now (out .entry)) (p .unit) (p .written) (now (out .exit)) ⌝ }
+    ensures { λ p. ⌜ Performs (event.asks (askOf what (now (bytes .entry)))) u at (now (out .entry)) (p .unit) (p .written) (now (out .exit)) ⌝ }
 {
-    let mut answer = [0u8; 42];
+    let mut answer = [0u8; ANSWER_ROOM];
     match what {
         Ask::Read => {
             let step = tag::read(u, bytes, &mut answer);
@@ -85,7 +86,7 @@ fn set(
     at: usize,
 ) -> Performed
     requires { ⌜ at + lineRoom ≤ length (now out) ⌝ }
-    ensures { λ p. ⌜ Performs (settingOf what level (now (r .entry)) (now (bytes .entry))) u at (now (out .entry)) (p .unit) (p .written) (now (out .exit)) ⌝ }
+    ensures { λ p. ⌜ Performs (event.asks (settingOf what level (now (r .entry)) (now (bytes .entry)))) u at (now (out .entry)) (p .unit) (p .written) (now (out .exit)) ⌝ }
 {
     match what {
         Setting::Pairing(on) => answers::settled(tag::pairing(u, on), b"answer=pairing\n", out, at),
@@ -104,7 +105,7 @@ fn elapse(u: TagUnit, tenths: u32, out: &mut [u8], at: usize) -> Performed
     requires { ⌜ at + lineRoom ≤ length (now out) ⌝ }
     ensures { λ p. ⌜ Performs (event.elapsed tenths) u at (now (out .entry)) (p .unit) (p .written) (now (out .exit)) ⌝ }
 {
-    let mut answer = [0u8; 42];
+    let mut answer = [0u8; ANSWER_ROOM];
     let passed = tag::elapsed(u, tenths, &mut answer);
     answers::passed(passed, &answer, out, at)
 }

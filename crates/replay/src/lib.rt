@@ -4,9 +4,16 @@ ghost use Prim.Native.Nat.{_≤_};
 ghost use Rattle.notation.specs.Text.{newline};
 ghost use Rattle.replay.specs.Replay.{longestLine};
 ghost use Rattle.replay.specs.Feeding.{first};
-ghost use Rattle.replay.specs.Session.{stateOf, Sound, Feeds, Finishes};
-ghost use Rattle.replay.specs.Inner.{SoundBy, Awaits, Takes, eventNext};
+ghost use mathlib.Core.Bool.{cond};
+ghost use mathlib.Core.List.{[]};
+ghost use lib.Dec.{eqb};
+ghost use lib.ListN.{length};
+ghost use Rattle.notation.specs.Written.{Puts};
+ghost use Rattle.replay.specs.Event.{malformedText};
+ghost use Rattle.replay.specs.Session.{stateOf, finishRoom, Sound, Feeds, Finishes};
+ghost use Rattle.replay.specs.Inner.{SoundBy, Awaits, Takes};
 use unit::TagUnit;
+use unit::change::no_unit;
 
 mod answers;
 mod closing;
@@ -24,12 +31,11 @@ const LAST_NUMBER: u32 = MOST_LINES + 1;
 // Room that holds what any one line prints.
 pub const LINE_ROOM: usize = 256;
 
-// Which line is expected.
-pub enum Next {
+// A line of the settings or of an event.
+pub enum Awaited {
     Power,
     Components,
     Volume,
-    Event,
     Nonce,
     Data,
     Tenths,
@@ -38,6 +44,12 @@ pub enum Next {
     KeyBytes,
     R,
     Id,
+}
+
+// Which line is expected: an event's name, or one inside the settings or an event.
+pub enum Next {
+    Event,
+    Inside(Awaited),
 }
 
 // A run between two lines: what is expected, the number of the line that is to come, what was read before it, and the unit.
@@ -95,18 +107,16 @@ pub const FINISH_ROOM: usize = 64;
 pub fn begin() -> Session
     ensures { λ r. ⌜ (stateOf r ≡ first) × Sound r ⌝ }
 {
-    let refused = tag::new_unit(0, 4, 0);
-    let unit = refused.unit;
     Session {
         run: Run {
             ended: false,
-            next: Next::Power,
+            next: Next::Inside(Awaited::Power),
             number: 1,
             power: 0,
             components: 0,
             r: [0u8; 128],
             filled: 0,
-            unit,
+            unit: no_unit(),
         },
         line: [0u8; 256],
         count: 0,
@@ -223,30 +233,19 @@ pub fn finish(s: Session, out: &mut [u8]) -> Finished
         return Finished::Wrote(0);
     }
     let next = run.next;
-    if s.count == 0 {
-        if event_next(next) {
-            return Finished::Wrote(0);
-        }
+    match next {
+        Next::Event => Finished::Wrote(unclosed(out, s.count, run.number)),
+        Next::Inside(_) => Finished::Wrote(answers::malformed(out, 0, run.number)),
     }
-    Finished::Wrote(answers::malformed(out, 0, run.number))
 }
 
-// Whether an event could begin.
-fn event_next(next: Next) -> bool
-    ensures { λ r. ⌜ r ≡ eventNext next ⌝ }
+// What stands after the last newline, where an event could begin: nothing, or a line that is not closed.
+fn unclosed(out: &mut [u8], count: usize, number: u32) -> usize
+    requires { ⌜ finishRoom ≤ length (now out) ⌝ }
+    ensures { λ r. ⌜ Puts (cond (eqb count 0) [] (malformedText number)) 0 (now (out .entry)) r (now (out .exit)) ⌝ }
 {
-    match next {
-        Next::Event => true,
-        Next::Power => false,
-        Next::Components => false,
-        Next::Volume => false,
-        Next::Nonce => false,
-        Next::Data => false,
-        Next::Tenths => false,
-        Next::On => false,
-        Next::Level => false,
-        Next::KeyBytes => false,
-        Next::R => false,
-        Next::Id => false,
+    if count == 0 {
+        return 0;
     }
+    answers::malformed(out, 0, number)
 }

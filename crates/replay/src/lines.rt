@@ -5,8 +5,9 @@ ghost use lib.ListN.{length};
 ghost use mathlib.Core.List.{[]};
 ghost use Rattle.notation.specs.Reading.{unsigned as unsignedOf, bytes as bytesOf};
 ghost use Rattle.replay.specs.Replay as replay;
-ghost use Rattle.replay.specs.Session.{expecting};
+ghost use Rattle.replay.specs.Session.{expecting, awaiting};
 ghost use Rattle.replay.specs.Inner.{Means, Says, SaysNumber, lineOf, valueLine};
+use crate::Awaited;
 use crate::Next;
 use crate::events::Ask;
 use crate::events::Event;
@@ -22,7 +23,7 @@ pub enum Line {
     Power(i32),
     Components,
     Volume,
-    Follows(Next),
+    Follows(Awaited),
     R,
     Brings(Event),
     Breaks,
@@ -41,23 +42,33 @@ pub fn read(next: Next, line: &[u8], into: &mut [u8]) -> Told
     ensures { λ r. ⌜ Says (λ p c b. replay.taken (expecting next p c b) (now (line .entry))) r (now (into .exit)) ⌝ }
 {
     match next {
-        Next::Power => plain(power(line)),
-        Next::Components => number(line, b"components=", Line::Components),
-        Next::Volume => number(line, b"volume=", Line::Volume),
         Next::Event => plain(event(line)),
-        Next::Nonce => octets(line, b"nonce=", Line::Brings(Event::Asks(Ask::Read)), into),
-        Next::Data => octets(line, b"data=", Line::Brings(Event::Asks(Ask::Write)), into),
-        Next::Tenths => number(line, b"tenths=", Line::Brings(Event::Elapsed)),
-        Next::On => plain(on(line)),
-        Next::Level => number(line, b"level=", Line::Brings(Event::Sets(Setting::Battery))),
-        Next::KeyBytes => octets(
+        Next::Inside(awaited) => inside(awaited, line, into),
+    }
+}
+
+// A line of the settings or of an event.
+fn inside(awaited: Awaited, line: &[u8], into: &mut [u8]) -> Told
+    requires { ⌜ (length (now line) ≤ 256) × (length (now into) ≡ 128) ⌝ }
+    ensures { λ r. ⌜ Says (λ p c b. replay.held (awaiting awaited p c b) (now (line .entry))) r (now (into .exit)) ⌝ }
+{
+    match awaited {
+        Awaited::Power => plain(power(line)),
+        Awaited::Components => number(line, b"components=", Line::Components),
+        Awaited::Volume => number(line, b"volume=", Line::Volume),
+        Awaited::Nonce => octets(line, b"nonce=", Line::Brings(Event::Asks(Ask::Read)), into),
+        Awaited::Data => octets(line, b"data=", Line::Brings(Event::Asks(Ask::Write)), into),
+        Awaited::Tenths => number(line, b"tenths=", Line::Brings(Event::Elapsed)),
+        Awaited::On => plain(on(line)),
+        Awaited::Level => number(line, b"level=", Line::Brings(Event::Sets(Setting::Battery))),
+        Awaited::KeyBytes => octets(
             line,
             b"bytes=",
             Line::Brings(Event::Sets(Setting::Key)),
             into,
         ),
-        Next::R => octets(line, b"r=", Line::R, into),
-        Next::Id => octets(
+        Awaited::R => octets(line, b"r=", Line::R, into),
+        Awaited::Id => octets(
             line,
             b"id=",
             Line::Brings(Event::Sets(Setting::Identifier)),
@@ -78,7 +89,7 @@ fn plain(line: Line) -> Told
 }
 
 fn power(line: &[u8]) -> Line
-    ensures { λ r. ⌜ Means (replay.taken replay.power (now (line .entry))) r ⌝ }
+    ensures { λ r. ⌜ Means (replay.held replay.power (now (line .entry))) r ⌝ }
 {
     if !reading::begins(line, b"power=") {
         return Line::Breaks;
@@ -90,7 +101,7 @@ fn power(line: &[u8]) -> Line
 }
 
 fn on(line: &[u8]) -> Line
-    ensures { λ r. ⌜ Means (replay.taken replay.on (now (line .entry))) r ⌝ }
+    ensures { λ r. ⌜ Means (replay.held replay.on (now (line .entry))) r ⌝ }
 {
     if !reading::begins(line, b"on=") {
         return Line::Breaks;
@@ -152,31 +163,31 @@ fn event(line: &[u8]) -> Line
 fn named(name: &[u8]) -> Line
     ensures { λ r. ⌜ Means (replay.named (now (name .entry))) r ⌝ }
 {
-    if reading::is(name, b"read") {
-        return Line::Follows(Next::Nonce);
+    if octets::same(name, b"read") {
+        return Line::Follows(Awaited::Nonce);
     }
-    if reading::is(name, b"write") {
-        return Line::Follows(Next::Data);
+    if octets::same(name, b"write") {
+        return Line::Follows(Awaited::Data);
     }
-    if reading::is(name, b"elapsed") {
-        return Line::Follows(Next::Tenths);
+    if octets::same(name, b"elapsed") {
+        return Line::Follows(Awaited::Tenths);
     }
-    if reading::is(name, b"button") {
+    if octets::same(name, b"button") {
         return Line::Brings(Event::Asks(Ask::Button));
     }
-    if reading::is(name, b"pairing") {
-        return Line::Follows(Next::On);
+    if octets::same(name, b"pairing") {
+        return Line::Follows(Awaited::On);
     }
-    if reading::is(name, b"battery") {
-        return Line::Follows(Next::Level);
+    if octets::same(name, b"battery") {
+        return Line::Follows(Awaited::Level);
     }
-    if reading::is(name, b"key") {
-        return Line::Follows(Next::KeyBytes);
+    if octets::same(name, b"key") {
+        return Line::Follows(Awaited::KeyBytes);
     }
-    if reading::is(name, b"identifier") {
-        return Line::Follows(Next::R);
+    if octets::same(name, b"identifier") {
+        return Line::Follows(Awaited::R);
     }
-    if reading::is(name, b"frame") {
+    if octets::same(name, b"frame") {
         return Line::Brings(Event::Asks(Ask::Frame));
     }
     Line::Breaks

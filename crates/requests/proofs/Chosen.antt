@@ -1,4 +1,4 @@
--- A write as a whole: an ID that has no handler, and the judgement, from what the code tests. Assumes nothing.
+-- A write as a whole: an ID that has no handler, and the judgement, from what the code tests.
 use Prim.Native.Nat.{ℕ, _-_}
 use mathlib.Core.Path.{_≡_, sym, ap, _∙_}
 use mathlib.Core.Bool.{Bool, true, false, _||_}
@@ -19,11 +19,12 @@ use Rattle.unit.specs.declared.Step.{Step}
 use Rattle.unit.specs.declared.Reply.{Reply}
 use Rattle.unit.specs.declared.Refusal.{Refusal}
 use Rattle.unit.proofs.Kept.{spent-kept}
-use Rattle.requests.specs.Judgement.{rejects, notAuthenticated, invalidValue}
-use Rattle.requests.specs.declared.Verdict.{Verdict}
-use Rattle.requests.specs.Judges.{Ready, Judges, judgementOf}
-use Rattle.requests.specs.Write.{byId, keyThere, judged, settled, written}
-use Rattle.requests.proofs.Settled.{refusal}
+use Rattle.authentication.specs.Judgement.{rejects, notAuthenticated, invalidValue, settled}
+use Rattle.authentication.specs.declared.Verdict.{Verdict}
+use Rattle.authentication.specs.Promises.{Ready, Judges, judgementOf}
+use Rattle.authentication.proofs.Judged.{refusal}
+use Rattle.sizes.specs.Sizes.{headSize}
+use Rattle.requests.specs.Write.{byId, needsKey, keyThere, judged, written}
 use Rattle.requests.proofs.Shaped.{sizes-legal, length-is, head-inside}
 
 module _ (u : TagUnit) (q : Request) where
@@ -63,29 +64,29 @@ module _ (u : TagUnit) (w : List ℕ) where
     pub after-formed : wellFormed u ≡ true → wellFormed after ≡ true
     after-formed formed = rw changed (spent-kept u formed)
 
-    module _ {h : Head} (head : request h (drop 10 w) ≡ parsed w) where
-      pub key-there : {there : Bool} → there ≡ ltb (h .id) 3 || u .identity .held → keyThere u (parsed w) ≡ there
-      key-there e = sym (e ∙ ap (λ (q : Request). ltb (q .id) 3 || u .identity .held) head)
+    module _ {h : Head} (head : request h (drop headSize w) ≡ parsed w) where
+      pub key-there : {there : Bool} → there ≡ ltb (h .id) needsKey || u .identity .held → keyThere u (parsed w) ≡ there
+      key-there e = sym (e ∙ ap (λ (q : Request). ltb (q .id) needsKey || u .identity .held) head)
 
-      tail-is : take (length w - 10) (drop 10 w) ≡ drop 10 w
-      tail-is = take-all (length w - 10) (drop 10 w) (omega (arith, length-drop 10 w))
+      tail-is : take (length w - headSize) (drop headSize w) ≡ drop headSize w
+      tail-is = take-all (length w - headSize) (drop headSize w) (omega (arith, length-drop headSize w))
 
       pub write-ready : wellFormed u ≡ true → shapeLegal w ≡ true
-          → Ready after (h .size) (take (length w - 10) (drop 10 w)) × (sizeLegal (h .id) (h .size) ≡ true)
+          → Ready after (h .size) (take (length w - headSize) (drop headSize w)) × (sizeLegal (h .id) (h .size) ≡ true)
       unfolding parsed
       write-ready formed shaped =
           let size = ap (λ (q : Request). q .size) head in
           let id = ap (λ (q : Request). q .id) head in (
             record {
               formed = after-formed formed;
-              sized = rw tail-is (omega (arith, size, length-drop 10 w, length-is w shaped, head-inside w shaped));
+              sized = rw tail-is (omega (arith, size, length-drop headSize w, length-is w shaped, head-inside w shaped));
             },
             rw (id, size) (sizes-legal w shaped),
           )
 
       pub write-judged : (r : Step) {v : Verdict} {before last : List ℕ} → judged u w ≡ byId (spent u) (parsed w)
-          → Judges after (h .id) (byId after (request h (take (length w - 10) (drop 10 w)))) v
-          → Answers (settled after (judgementOf after (h .id) v (v .grant))) (r .unit) (r .reply) before last
+          → Judges after (h .id) (byId after (request h (take (length w - headSize) (drop headSize w)))) v
+          → Answers (settled after (judgementOf after (h .id) v (v .ruling))) (r .unit) (r .reply) before last
           → Answers (written u w) (r .unit) (r .reply) before last
       unfolding written
       write-judged r is p ends =

@@ -1,19 +1,15 @@
--- The shape of a write: its first ten bytes, when it is legal, and how long the additional data then is. Assumes nothing.
+-- The shape of a write: its first ten bytes, when it is legal, and how long the additional data then is.
 use Prim.Native.Nat.{ℕ, zero, suc, _+_, _≤_, _<_}
-use mathlib.Core.Path.{_≡_, refl, sym, ap, _∙_}
+use mathlib.Core.Path.{_≡_, refl, ap, _∙_}
 use mathlib.Core.Bool.{Bool, true, false, _&&_, false≢true}
 use mathlib.Core.List.{List, [], _∷_}
 use mathlib.Core.Logic.{_⊎_, inl, inr}
 use native.Mathlib.Omega.{arith}
 use lib.Dec.{eqb, leb}
-use lib.ListN.{length, getD, take, drop, length-drop}
-use lib.Seq.{getD-drop}
+use lib.ListN.{length, getD, take, drop}
 use borrow.Author.Tests.{le-leb, lt-leb, leb-true, eqb-true}
-use Rattle.laws.specs.Bytes.{tabulate}
 use Rattle.laws.proofs.Flags.{and-left, and-right, and-fails-left, or-cases}
-use Rattle.laws.proofs.Elements.{first-elements}
-use Rattle.laws.proofs.Tabulate.{tabulate-ext}
-use Rattle.wire.specs.Signing.{tagBytes}
+use Rattle.sizes.specs.Sizes.{tagSize, headSize, identityKeySize}
 use Rattle.wire.specs.Shape.{request, parsed, legalSizes, oneOf, sizeLegal, shapeLegal}
 use Rattle.wire.proofs.Sizes.{legal-one}
 
@@ -42,13 +38,13 @@ one-at-least least n (x ∷ xs) t h =
     go (inr e) rest = rest e
 
 -- so a legal write has its tag whole
-least-size : (id size : ℕ) → sizeLegal id size ≡ true → tagBytes ≤ size
+least-size : (id size : ℕ) → sizeLegal id size ≡ true → tagSize ≤ size
 unfolding sizeLegal legalSizes
-least-size id size h = one-at-least tagBytes size (getD legalSizes id []) (row-at-least tagBytes legalSizes refl id) h
+least-size id size h = one-at-least tagSize size (getD legalSizes id []) (row-at-least tagSize legalSizes refl id) h
 
 -- the additional data of 0x02 holds a key, that of 0x05 four bytes
-module _ {id size : ℕ} (additional : List ℕ) (legal : sizeLegal id size ≡ true) (sized : tagBytes + length additional ≡ size) where
-  pub key-inside : id ≡ 2 → 32 ≤ length additional
+module _ {id size : ℕ} (additional : List ℕ) (legal : sizeLegal id size ≡ true) (sized : tagSize + length additional ≡ size) where
+  pub key-inside : id ≡ 2 → identityKeySize ≤ length additional
   unfolding sizeLegal legalSizes
   key-inside e = omega (arith, one-at-least 40 size (getD legalSizes 2 []) refl (rw e at legal))
 
@@ -58,25 +54,9 @@ module _ {id size : ℕ} (additional : List ℕ) (legal : sizeLegal id size ≡ 
 
 -- The first ten bytes, and the shape
 module _ (w : List ℕ) where
-  tag-is : 10 ≤ length w
-      → getD w 2 0 ∷ getD w 3 0 ∷ getD w 4 0 ∷ getD w 5 0 ∷ getD w 6 0 ∷ getD w 7 0 ∷ getD w 8 0 ∷ getD w 9 0 ∷ [] ≡ take tagBytes (drop 2 w)
-  unfolding tabulate
-  tag-is h =
-      sym
-      (first-elements 0 tagBytes (drop 2 w) (simp length-drop (omega arith))
-      ∙ tabulate-ext tagBytes (λ i. getD (drop 2 w) i 0) (λ i. getD w (2 + i) 0) (λ i p. getD-drop 2 w i 0))
-
-  pub head-is : 10 ≤ length w
-      → request
-      (record {
-        id = getD w 0 0;
-        size = getD w 1 0;
-        tag = getD w 2 0 ∷ getD w 3 0 ∷ getD w 4 0 ∷ getD w 5 0 ∷ getD w 6 0 ∷ getD w 7 0 ∷ getD w 8 0 ∷ getD w 9 0 ∷ [];
-      })
-      (drop 10 w)
-      ≡ parsed w
+  pub head-is : {tag : List ℕ} → tag ≡ take tagSize (drop 2 w) → request (record { id = getD w 0 0; size = getD w 1 0; tag = tag }) (drop headSize w) ≡ parsed w
   unfolding parsed
-  head-is h = ap (λ (t : List ℕ). request (record { id = getD w 0 0; size = getD w 1 0; tag = t }) (drop 10 w)) (tag-is h)
+  head-is e = ap (λ (t : List ℕ). request (record { id = getD w 0 0; size = getD w 1 0; tag = t }) (drop headSize w)) e
 
   pub shape-short : length w < 2 → shapeLegal w ≡ false
   unfolding shapeLegal
@@ -100,5 +80,5 @@ module _ (w : List ℕ) where
     unfolding shapeLegal
     length-is = eqb-true _ _ (and-right (sizeLegal (getD w 0 0) (getD w 1 0)) _ (and-right (leb 2 (length w)) _ h))
 
-    pub head-inside : 10 ≤ length w
+    pub head-inside : headSize ≤ length w
     head-inside = omega (arith, length-is, least-size (getD w 0 0) (getD w 1 0) sizes-legal)

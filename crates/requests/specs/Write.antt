@@ -1,4 +1,4 @@
--- "Read and write": a write as a whole, on a well-formed unit with room for the answer. Assumes nothing.
+-- "Read and write": a write as a whole, on a well-formed unit with room for the answer.
 use Prim.Native.Nat.{ℕ}
 use mathlib.Core.Bool.{Bool, cond, _||_}
 use mathlib.Core.List.{List}
@@ -6,11 +6,11 @@ use lib.Dec.{eqb, ltb}
 use Rattle.wire.specs.Shape.{Request, parsed, shapeLegal}
 use Rattle.unit.specs.declared.TagUnit.{TagUnit}
 use Rattle.unit.specs.Change.{spent}
-use Rattle.unit.specs.Outcome.{Outcome, giving, refusing}
-use Rattle.requests.specs.Judgement.{Judgement, accepts, rejects, notAuthenticated, invalidValue, unless}
-use Rattle.requests.specs.Provisioning.{readParameters, readState, setKey, clearKey, recoverKey}
-use Rattle.requests.specs.Ringing.{ring, readSound}
-use Rattle.requests.specs.Protecting.{protect, unprotect}
+use Rattle.unit.specs.Outcome.{Outcome}
+use Rattle.authentication.specs.Judgement.{Judgement, notAuthenticated, invalidValue, unless, settled}
+use Rattle.provisioning.specs.Provisioning.{readParameters, readState, setKey, clearKey, recoverKey}
+use Rattle.ringing.specs.Ringing.{ring, readSound}
+use Rattle.ringing.specs.Protecting.{protect, unprotect}
 
 -- the request by its ID
 unfoldable pub byId : TagUnit → Request → Judgement
@@ -26,8 +26,11 @@ byId u q =
     (cond (eqb (q .id) 0x08) (unprotect u q) invalidValue))))))))
 
 -- "IDs 0x03 to 0x08 without an identity key: 0x80"
+abbrev pub needsKey : ℕ
+needsKey = 0x03
+
 abbrev pub keyThere : TagUnit → Request → Bool
-keyThere u q = ltb (q .id) 0x03 || u .identity .held
+keyThere u q = ltb (q .id) needsKey || u .identity .held
 
 -- "An unknown ID or any other count: 0x81. Then, in order: no live nonce, 0x80 (house: skip-authentication ringing needs one too);
 -- tag and key proofs, 0x80; values, 0x81; consent, 0x82." The request is judged on the unit with its nonce spent
@@ -36,11 +39,6 @@ judged u w =
     unless (shapeLegal w) invalidValue
     (unless (u .nonce .live) notAuthenticated
     (unless (keyThere u (parsed w)) notAuthenticated (byId (spent u) (parsed w))))
-
--- an accepted request gives the unit after it and its answer; a refused one leaves the unit that it was judged on
-abbrev pub settled : TagUnit → Judgement → Outcome
-settled u (accepts after answer) = giving answer after
-settled u (rejects n) = refusing n u
 
 -- "Every write that passes 6 and 2 spends the live nonce, whatever follows"
 unfoldable pub written : TagUnit → List ℕ → Outcome

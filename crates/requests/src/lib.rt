@@ -1,31 +1,105 @@
-// The nine writes of a well-formed unit: which key, which values, what becomes of the unit, and the answer.
+// A write as a whole, on a well-formed unit with room for the answer: shape, live nonce, and the request by its ID.
+ghost use mathlib.Core.Path.{_≡_};
+ghost use mathlib.Core.Bool.{true, _||_};
+ghost use Prim.Native.Nat.{_≤_};
+ghost use lib.Dec.{ltb};
+ghost use lib.ListN.{length, drop};
+ghost use Rattle.sizes.specs.Sizes.{headSize, answerRoom};
+ghost use Rattle.unit.specs.WellFormed.{wellFormed};
+ghost use Rattle.unit.specs.Outcome.{Answers};
+ghost use Rattle.wire.specs.Shape.{request, parsed, sizeLegal, shapeLegal};
+ghost use Rattle.authentication.specs.Promises.{Ready, Judges};
+ghost use Rattle.requests.specs.Write.{byId, needsKey, written};
+use authentication::Verdict;
+use authentication::answering;
+use provisioning::key;
+use provisioning::parameters;
+use provisioning::state;
+use ringing::protecting;
+use ringing::sounding;
+use sizes::HEAD_SIZE;
 use unit::Refusal;
+use unit::Step;
 use unit::TagUnit;
+use unit::change;
+use unit::end;
+use wire::Head;
+use wire::shape;
 
-pub mod grants;
-pub mod handle;
-pub mod keys;
-pub mod protecting;
-pub mod provisioning;
-pub mod ringing;
+// The first request that needs an identity key.
+const FIRST_KEYED: u8 = 0x03;
 
-// A place in the key table, if there is one.
-pub enum Found {
-    At(usize),
-    Nowhere,
+// Hands the request, with the write's tail as its additional data, to the handler of its ID.
+fn by_id(u: TagUnit, h: Head, additional: &[u8]) -> Verdict
+    requires { ⌜ Ready u (h .size) (now additional) × (sizeLegal (h .id) (h .size) ≡ true) ⌝ }
+    ensures { λ r. ⌜ Judges u (h .id) (byId u (request h (now (additional .entry)))) r ⌝ }
+{
+    let id = h.id;
+    match id {
+        0x00 => parameters::read_parameters(u, h, additional),
+        0x01 => state::read_state(u, h, additional),
+        0x02 => key::set_key(u, h, additional),
+        0x03 => key::clear_key(u, h, additional),
+        0x04 => key::recover_key(u, h, additional),
+        0x05 => sounding::ring(u, h, additional),
+        0x06 => sounding::read_sound(u, h, additional),
+        0x07 => protecting::protect(u, h, additional),
+        0x08 => protecting::unprotect(u, h, additional),
+        _ => answering::denied(u, Refusal::InvalidValue),
+    }
 }
 
-// How a request was judged: denied, or granted to the account key at a place or to the key derived with a number.
-pub enum Grant {
-    Denied(Refusal),
-    Account(usize),
-    Derived(u8),
+// Whether a write has a legal shape.
+fn shape_legal(w: &[u8]) -> bool
+    ensures { λ r. ⌜ r ≡ shapeLegal (now (w .entry)) ⌝ }
+{
+    if w.len() < 2 {
+        return false;
+    }
+    if shape::size_legal(w[0], w[1]) {
+        return w.len() == (w[1] as usize) + 2;
+    }
+    false
 }
 
-// The judgement of a request: the unit after it, its grant, and the data of its answer, the first `size` bytes of the payload.
-pub struct Verdict {
-    pub unit: TagUnit,
-    pub grant: Grant,
-    pub size: usize,
-    pub payload: [u8; 32],
+// The first ten bytes of a write.
+fn head_of(w: &[u8]) -> Head
+    requires { ⌜ headSize ≤ length (now w) ⌝ }
+    ensures { λ r. ⌜ request r (drop headSize (now (w .entry))) ≡ parsed (now (w .entry)) ⌝ }
+{
+    Head {
+        id: w[0],
+        size: w[1],
+        tag: octets::eight(&w[2..HEAD_SIZE]),
+    }
+}
+
+// Whether a request finds the identity key that it needs.
+fn key_there(id: u8, held: bool) -> bool
+    ensures { λ r. ⌜ r ≡ (ltb id needsKey || held) ⌝ }
+{
+    if id < FIRST_KEYED {
+        return true;
+    }
+    held
+}
+
+// The whole write. It spends the live nonce, whatever follows.
+pub fn write(u: TagUnit, w: &[u8], answer: &mut [u8]) -> Step
+    requires { ⌜ (wellFormed u ≡ true) × (answerRoom ≤ length (now answer)) ⌝ }
+    ensures { λ r. ⌜ Answers (written u (now (w .entry))) (r .unit) (r .reply) (now (answer .entry)) (now (answer .exit)) ⌝ }
+{
+    let after = change::spent(u);
+    if !shape_legal(w) {
+        return end::refuse(after, Refusal::InvalidValue);
+    }
+    if !u.nonce.live {
+        return end::refuse(after, Refusal::NotAuthenticated);
+    }
+    let h = head_of(w);
+    if !key_there(h.id, u.identity.held) {
+        return end::refuse(after, Refusal::NotAuthenticated);
+    }
+    let v = by_id(after, h, &w[HEAD_SIZE..]);
+    answering::settle(after, v, h.id, answer)
 }

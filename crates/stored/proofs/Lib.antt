@@ -1,7 +1,2 @@
-pub mod Pasting
-pub mod Power
-pub mod Keys
-pub mod Pieces
-pub mod Numbers
-pub mod Places
+pub mod Keeping
 pub mod RoundTrip

@@ -1,150 +1,94 @@
--- A unit comes back from the bytes of its record; bytes that are no record mean a unit that is not well formed. Assumes nothing.
-use mathlib.Core.Path.{_≡_, refl, ap}
-use mathlib.Core.Bool.{Bool, true, false, cond, _||_}
-use mathlib.Core.List.{List, [], _∷_}
-use Prim.Native.Nat.{ℕ, _-_, _*_, _^_, _≤_, _<_}
+-- The record of a unit and the unit of a record: the round trip, and which bytes are no record.
+use Prim.Native.Nat.{ℕ, zero, suc, _+_}
+use mathlib.Core.Path.{_≡_, sym, ap, _∙_}
+use mathlib.Core.Logic.{_⊎_, inl, inr}
+use mathlib.Core.Bool.{Bool, true, false, cond, _&&_}
+use mathlib.Core.List.{List, [], _∷_, append-nil}
 use native.Mathlib.Omega.{arith}
-use lib.Dec.{leb, eqb}
-use lib.ListN.{length, getD, take, drop}
-use lib.Seq.{take-all}
-use lib.IntN.{ℤ, pos, negsuc}
-use lib.Signed.{mag}
-use borrow.Author.Tests.{lt-ltb, le-ltb, eq-eqb, ne-eqb}
-use Rattle.laws.specs.Bytes.{bigEndian, number, allZero}
-use Rattle.laws.proofs.BigEndian.{length-bigEndian}
-use Rattle.laws.proofs.Flags.{both, and-fails-right}
+use lib.Dec.{eqb}
+use lib.ListN.{length, getD, replicate, length-append}
+use borrow.Author.Tests.{eq-eqb, ne-eqb}
+use Rattle.laws.specs.Bytes.{sameBytes}
+use Rattle.laws.proofs.Flags.{and-right, fails, true-or-false}
+use Rattle.laws.proofs.Same.{same-refl, same-equal}
+use Rattle.unit.specs.Change.{noUnit}
+use Rattle.unit.proofs.Lines.{lines}
+use Rattle.unit.specs.WellFormed.{wellFormed}
 use Rattle.unit.specs.declared.TagUnit.{TagUnit}
-use Rattle.unit.specs.declared.AccountKey.{AccountKey}
-use Rattle.unit.specs.declared.Owner.{Owner}
-use Rattle.unit.specs.declared.Sound.{Sound}
-use Rattle.unit.specs.declared.Protection.{Protection}
-use Rattle.unit.specs.WellFormed.{wellFormed, settingsLegal, accountsLegal, heldKeys, distinct, zeros, ownerLegal, identityLegal, nonceLegal, soundLegal}
-use Rattle.tag.specs.Calls.{noUnit}
-use Rattle.stored.specs.Layout.{encoded, decoded, decodedFields, namesVariants, powerWord, wordPower, flagByte, ownerBytes, soundBytes, protectionByte, keyAt}
-use Rattle.stored.specs.Fitting.{Fitting, noKey}
-use Rattle.stored.proofs.Numbers.{number-bigEndian}
-use Rattle.stored.proofs.Pieces.{joined, pieces, encoded-pieces}
-use Rattle.stored.proofs.Places.{Places, placed}
+use Rattle.record_parts.specs.Part.{Fitting, bytesOf, valueOf}
+use Rattle.record_parts.specs.Kinds.{byteSize}
+use Rattle.stored.specs.Record.{version, unitFields, recordSize, encoded, decoded}
+use Rattle.stored.proofs.Keeping.{unit-lawful}
 
--- each byte that names a variant, and back to the variant
-flag-names : (f : Bool) → leb (flagByte f) 1 ≡ true
-flag-names true = refl
-flag-names false = refl
+pub length-encoded : (u : TagUnit) → Fitting unitFields u → length (encoded u) ≡ recordSize
+unfolding encoded
+length-encoded u h = length-append (version ∷ []) (bytesOf unitFields u) ∙ ap (λ (n : ℕ). 1 + n) (unit-lawful .sized u h)
 
-flag-back : (f : Bool) → eqb (flagByte f) 1 ≡ f
-flag-back true = refl
-flag-back false = refl
+value-encoded : (u : TagUnit) → Fitting unitFields u → valueOf unitFields (encoded u) byteSize ≡ u
+unfolding encoded
+value-encoded u h = rw (append-nil (bytesOf unitFields u)) at (unit-lawful .back u h (version ∷ []) [])
 
-owner-names : (o : Owner) → leb (getD (ownerBytes o) 0 0) 1 ≡ true
-owner-names Owner.Nobody = refl
-owner-names (Owner.Place p) = refl
+pub round-trip : (u : TagUnit) → Fitting unitFields u → decoded (encoded u) ≡ u
+unfolding decoded
+round-trip u h =
+    let v = value-encoded u h in
+    rw (v, eq-eqb (length (encoded u)) recordSize (length-encoded u h), same-refl (encoded u))
 
-owner-room : (o : Owner) → eqb (getD (ownerBytes o) 0 0) 1 || allZero (take 8 (drop 1 (ownerBytes o))) ≡ true
-unfolding bigEndian allZero
-owner-room Owner.Nobody = refl
-owner-room (Owner.Place p) = refl
+-- bytes that mean a unit are its record
+pub only-records : (b : List ℕ) → (encoded (decoded b) ≡ b) ⊎ (decoded b ≡ noUnit)
+unfolding decoded
+only-records b = go (true-or-false test)
+  where
+    u : TagUnit
+    u = valueOf unitFields b byteSize
 
-whole-number : (k n : ℕ) → n < 256 ^ k → number (take k (bigEndian k n)) ≡ n
-whole-number k n h =
-    let all : length (bigEndian k n) ≤ k = omega (arith, length-bigEndian k n) in
-    rw (take-all k (bigEndian k n) all) (number-bigEndian k n h)
+    test : Bool
+    test = eqb (length b) recordSize && sameBytes (encoded u) b
 
-owner-back : (o : Owner) → ((p : ℕ) → o ≡ Owner.Place p → p < 2 ^ 64)
-    → cond (eqb (getD (ownerBytes o) 0 0) 1) (Owner.Place (number (take 8 (drop 1 (ownerBytes o))))) Owner.Nobody ≡ o
-owner-back Owner.Nobody h = refl
-owner-back (Owner.Place p) h = ap Owner.Place (whole-number 8 p (h p refl))
+    go : (test ≡ true) ⊎ (test ≡ false) → (encoded (cond test u noUnit) ≡ b) ⊎ (cond test u noUnit ≡ noUnit)
+    go (inl e) = inl (rw e (same-equal (encoded u) b (and-right (eqb (length b) recordSize) _ e)))
+    go (inr e) = inr (rw e)
 
-sound-names : (s : Sound) → leb (getD (soundBytes s) 0 0) 1 ≡ true
-sound-names Sound.Silent = refl
-sound-names (Sound.Ringing mask volume left) = refl
+-- how the code decides: by the length, then by the record of what it read
+pub other-length : (b : List ℕ) → (length b ≡ recordSize → ⊥) → decoded b ≡ noUnit
+unfolding decoded
+other-length b h = rw (ne-eqb (length b) recordSize h)
 
-sound-room : (s : Sound) → eqb (getD (soundBytes s) 0 0) 1 || allZero (take 4 (drop 1 (soundBytes s))) ≡ true
-unfolding bigEndian allZero
-sound-room Sound.Silent = refl
-sound-room (Sound.Ringing mask volume left) = refl
-
-sound-back : (s : Sound) → ((mask volume left : ℕ) → s ≡ Sound.Ringing mask volume left → left < 2 ^ 16)
-    → cond (eqb (getD (soundBytes s) 0 0) 1)
-    (Sound.Ringing (getD (soundBytes s) 1 0) (getD (soundBytes s) 2 0) (number (take 2 (drop 3 (soundBytes s)))))
-    Sound.Silent
-    ≡ s
-sound-back Sound.Silent h = refl
-sound-back (Sound.Ringing mask volume left) h = ap (Sound.Ringing mask volume) (whole-number 2 left (h mask volume left refl))
-
-protection-names : (p : Protection) → leb (protectionByte p) 2 ≡ true
-protection-names Protection.Off = refl
-protection-names (Protection.On true) = refl
-protection-names (Protection.On false) = refl
-
-protection-back : (p : Protection) → cond (eqb (protectionByte p) 0) Protection.Off (Protection.On (eqb (protectionByte p) 2)) ≡ p
-protection-back Protection.Off = refl
-protection-back (Protection.On true) = refl
-protection-back (Protection.On false) = refl
-
-power-back : (p : ℤ) → mag p < 2 ^ 31 → wordPower (powerWord p) ≡ p
-power-back (pos n) h = rw (lt-ltb n 2147483648 h)
-power-back (negsuc n) h =
-    let high : 2147483648 ≤ 4294967295 - n = omega arith in
-    let same : 4294967295 - (4294967295 - n) ≡ n = omega arith in
-    rw (le-ltb (4294967295 - n) 2147483648 high, same)
-
--- five keys are the keys at the places 0 to 4
-five : (ks : List AccountKey) → length ks ≡ 5
-    → getD ks 0 noKey ∷ getD ks 1 noKey ∷ getD ks 2 noKey ∷ getD ks 3 noKey ∷ getD ks 4 noKey ∷ [] ≡ ks
-five [] h = absurd (omega arith)
-five (a ∷ []) h = absurd (omega arith)
-five (a ∷ b ∷ []) h = absurd (omega arith)
-five (a ∷ b ∷ c ∷ []) h = absurd (omega arith)
-five (a ∷ b ∷ c ∷ d ∷ []) h = absurd (omega arith)
-five (a ∷ b ∷ c ∷ d ∷ e ∷ []) h = refl
-five (a ∷ b ∷ c ∷ d ∷ e ∷ f ∷ ks) h = absurd (omega arith)
-
-module _ (u : TagUnit) (b : List ℕ) (f : Fitting u) (p : Places u b) where
-  names : namesVariants b ≡ true
-  unfolding namesVariants
-  names =
-      rw (p .nonceHeld, p .nonceLive, p .owner, p .place, p .identityHeld, p .sound, p .ring, p .protection, p .pairing, p .identifierHeld)
-      (both (flag-names (u .nonce .held)) (both (flag-names (u .nonce .live)) (both (owner-names (u .owner)) (both (owner-room (u .owner))
-      (both (flag-names (u .identity .held)) (both (sound-names (u .sound)) (both (sound-room (u .sound)) (both (protection-names (u .protection))
-      (both (flag-names (u .pairing)) (flag-names (u .identifier .held)))))))))))
-
-  key-back : (i : ℕ) → i < 5 → keyAt b (16 * i) ≡ getD (u .accounts .keys) i noKey
-  key-back i h = rw (p .key i h)
-
-  keys-back : keyAt b 0 ∷ keyAt b 16 ∷ keyAt b 32 ∷ keyAt b 48 ∷ keyAt b 64 ∷ [] ≡ u .accounts .keys
-  keys-back =
-      rw (key-back 0 (omega arith), key-back 1 (omega arith), key-back 2 (omega arith), key-back 3 (omega arith), key-back 4 (omega arith))
-      (five (u .accounts .keys) (f .keys))
-
-  fields-back : decodedFields b ≡ u
-  unfolding decodedFields
-  fields-back =
-      rw (p .power, power-back (u .settings .power) (f .power), p .components, p .selectable, p .seconds, p .tenth)
-      (rw (p .nonceHeld, p .nonceLive, flag-back (u .nonce .held), flag-back (u .nonce .live), p .nonce, p .count, keys-back)
-      (rw (p .owner, p .place, owner-back (u .owner) (f .place), p .identityHeld, flag-back (u .identity .held), p .identity)
-      (rw (p .sound, p .mask, p .volume, p .left, sound-back (u .sound) (f .left), p .ringNonce)
-      (rw (p .protection, protection-back (u .protection), p .consent, p .pairing, flag-back (u .pairing), p .battery)
-      (rw (p .identifierHeld, flag-back (u .identifier .held), p .r, p .id, p .window))))))
-
-  pub decoded-back : decoded b ≡ u
+module _ (b : List ℕ) {written : List ℕ} {u : TagUnit} (long : length b ≡ recordSize) (read : u ≡ valueOf unitFields b byteSize) (is : written ≡ encoded u) where
+  pub other-bytes : sameBytes written b ≡ false → decoded b ≡ noUnit
   unfolding decoded
-  decoded-back = rw (eq-eqb (length b) 214 (p .size), names) fields-back
+  other-bytes e =
+      let f : sameBytes (encoded (valueOf unitFields b byteSize)) b ≡ false = rw (is, read) at e in
+      rw (eq-eqb (length b) recordSize long, f)
 
-pub length-encoded : (u : TagUnit) → Fitting u → length (encoded u) ≡ 214
-length-encoded u f = rw (encoded-pieces u) (placed u f .size)
+  pub same-bytes : sameBytes written b ≡ true → decoded b ≡ u
+  unfolding decoded
+  same-bytes e =
+      let f : sameBytes (encoded (valueOf unitFields b byteSize)) b ≡ true = rw (is, read) at e in
+      rw (eq-eqb (length b) recordSize long, f) (sym read)
 
-pub round-trip : (u : TagUnit) → Fitting u → decoded (encoded u) ≡ u
-round-trip u f = rw (encoded-pieces u) (decoded-back u (joined (pieces u)) f (placed u f))
+-- bytes that are nobody's record, as where a byte names no variant
+pub no-record : (b : List ℕ) → ((u : TagUnit) → encoded u ≡ b → ⊥) → decoded b ≡ noUnit
+no-record b h = go (only-records b)
+  where
+    go : (encoded (decoded b) ≡ b) ⊎ (decoded b ≡ noUnit) → decoded b ≡ noUnit
+    go (inl e) = absurd (h (decoded b) e)
+    go (inr e) = e
 
--- bytes that are no record
-pub other-length : (b : List ℕ) → (length b ≡ 214 → ⊥) → decoded b ≡ noUnit
-unfolding decoded
-other-length b h = rw (ne-eqb (length b) 214 h)
+-- another version byte, and so memory that is zeroed or erased, however long
+pub other-version : (b : List ℕ) → (getD b 0 0 ≡ version → ⊥) → decoded b ≡ noUnit
+unfolding encoded
+other-version b h = no-record b (λ u e. h (ap (λ (l : List ℕ). getD l 0 0) (sym e)))
 
-pub no-variant : (b : List ℕ) → namesVariants b ≡ false → decoded b ≡ noUnit
-unfolding decoded
-no-variant b h = rw (and-fails-right (eqb (length b) 214) h)
+pub zeroed : (n : ℕ) → decoded (replicate n 0x00) ≡ noUnit
+zeroed zero = other-version (replicate zero 0x00) (λ e. omega (arith, e))
+zeroed (suc n) = other-version (replicate (suc n) 0x00) (λ e. omega (arith, e))
 
+pub erased : (n : ℕ) → decoded (replicate n 0xFF) ≡ noUnit
+erased zero = other-version (replicate zero 0xFF) (λ e. omega (arith, e))
+erased (suc n) = other-version (replicate (suc n) 0xFF) (λ e. omega (arith, e))
+
+-- and no unit is not well formed: refusal 2
 pub noUnit-malformed : wellFormed noUnit ≡ false
-unfolding wellFormed noUnit settingsLegal accountsLegal heldKeys distinct zeros allZero ownerLegal identityLegal nonceLegal soundLegal
-noUnit-malformed = refl
+unfolding noUnit
+noUnit-malformed = fails (wellFormed noUnit) (λ h. let l = lines noUnit h in omega (arith, l .battery))

@@ -1,3 +1,1 @@
-pub mod Layout
-pub mod Groups
-pub mod Fitting
+pub mod Record

@@ -1,4 +1,141 @@
-// The unit as a record of 214 bytes that a host keeps and saves: what the bytes mean, and how a unit is put into them. For `firmware`: these
-// functions may ask something of their caller.
-pub mod decode;
-pub mod encode;
+// The unit as a record of bytes, which a host keeps in its own memory and saves to flash: a version byte, then the unit's fields part by
+// part. The constants say where each part stands, each right behind the one before it.
+ghost use mathlib.Core.Path.{_≡_};
+ghost use Prim.Native.Nat.{_≤_};
+ghost use lib.ListN.{length};
+ghost use Rattle.record_parts.specs.Kinds.{byteSize};
+ghost use Rattle.record_parts.specs.Part.{valueOf};
+ghost use Rattle.stored.specs.Record.{unitFields, recordSize, encoded, decoded};
+use record_parts::accounts;
+use record_parts::clock;
+use record_parts::identifier;
+use record_parts::identity;
+use record_parts::kinds;
+use record_parts::kinds::BYTE_SIZE;
+use record_parts::kinds::TENTHS_SIZE;
+use record_parts::nonce;
+use record_parts::plain;
+use record_parts::protection;
+use record_parts::settings;
+use record_parts::sound;
+use sizes::NONCE_SIZE;
+use unit::TagUnit;
+use unit::change;
+
+// Raised by every change of the layout; never 0x00 or 0xFF, so that zeroed and erased memory are no record.
+pub const VERSION: u8 = 0x01;
+
+const VERSION_AT: usize = 0;
+
+const SETTINGS_AT: usize = VERSION_AT + BYTE_SIZE;
+
+const CLOCK_AT: usize = SETTINGS_AT + settings::SIZE;
+
+const NONCE_AT: usize = CLOCK_AT + clock::SIZE;
+
+const ACCOUNTS_AT: usize = NONCE_AT + nonce::SIZE;
+
+const IDENTITY_AT: usize = ACCOUNTS_AT + accounts::SIZE;
+
+const SOUND_AT: usize = IDENTITY_AT + identity::SIZE;
+
+const RING_NONCE_AT: usize = SOUND_AT + sound::SIZE;
+
+const PROTECTION_AT: usize = RING_NONCE_AT + NONCE_SIZE;
+
+const CONSENT_AT: usize = PROTECTION_AT + protection::SIZE;
+
+const PAIRING_AT: usize = CONSENT_AT + TENTHS_SIZE;
+
+const BATTERY_AT: usize = PAIRING_AT + BYTE_SIZE;
+
+const IDENTIFIER_AT: usize = BATTERY_AT + BYTE_SIZE;
+
+// The bytes of a record.
+pub const RECORD_SIZE: usize = IDENTIFIER_AT + identifier::SIZE;
+
+// Writes the record of a unit.
+pub fn encode(bytes: &mut [u8], u: TagUnit)
+    requires { ⌜ length (now bytes) ≡ recordSize ⌝ }
+    ensures { λ _. ⌜ now (bytes .exit) ≡ encoded u ⌝ }
+{
+    let settings = u.settings;
+    let clock = u.clock;
+    let nonce = u.nonce;
+    let accounts = u.accounts;
+    let identity = u.identity;
+    let sound = u.sound;
+    let ring_nonce = u.ring_nonce;
+    let protection = u.protection;
+    let identifier = u.identifier;
+    kinds::put_byte(bytes, VERSION_AT, VERSION);
+    settings::put(bytes, SETTINGS_AT, settings);
+    clock::put(bytes, CLOCK_AT, clock);
+    nonce::put(bytes, NONCE_AT, nonce);
+    accounts::put(bytes, ACCOUNTS_AT, accounts);
+    identity::put(bytes, IDENTITY_AT, identity);
+    sound::put(bytes, SOUND_AT, sound);
+    plain::put_nonce(bytes, RING_NONCE_AT, ring_nonce);
+    protection::put(bytes, PROTECTION_AT, protection);
+    kinds::put_tenths(bytes, CONSENT_AT, u.consent);
+    kinds::put_flag(bytes, PAIRING_AT, u.pairing);
+    kinds::put_byte(bytes, BATTERY_AT, u.battery);
+    identifier::put(bytes, IDENTIFIER_AT, identifier);
+}
+
+// The unit whose fields stand in these bytes, each at its place.
+fn fields(bytes: &[u8]) -> TagUnit
+    requires { ⌜ recordSize ≤ length (now bytes) ⌝ }
+    ensures { λ r. ⌜ r ≡ valueOf unitFields (now (bytes .entry)) byteSize ⌝ }
+{
+    let settings = settings::read(bytes, SETTINGS_AT);
+    let clock = clock::read(bytes, CLOCK_AT);
+    let nonce = nonce::read(bytes, NONCE_AT);
+    let accounts = accounts::read(bytes, ACCOUNTS_AT);
+    let identity = identity::read(bytes, IDENTITY_AT);
+    let sound = sound::read(bytes, SOUND_AT);
+    let ring_nonce = plain::nonce(bytes, RING_NONCE_AT);
+    let protection = protection::read(bytes, PROTECTION_AT);
+    let consent = kinds::tenths(bytes, CONSENT_AT);
+    let pairing = kinds::flag(bytes, PAIRING_AT);
+    let battery = bytes[BATTERY_AT];
+    let identifier = identifier::read(bytes, IDENTIFIER_AT);
+    TagUnit {
+        settings,
+        clock,
+        nonce,
+        accounts,
+        identity,
+        sound,
+        ring_nonce,
+        protection,
+        consent,
+        pairing,
+        battery,
+        identifier,
+    }
+}
+
+// The record of a unit, as an array.
+fn record(u: TagUnit) -> [u8; RECORD_SIZE]
+    ensures { λ r. ⌜ r ≡ encoded u ⌝ }
+{
+    let mut bytes = [0u8; RECORD_SIZE];
+    encode(&mut bytes, u);
+    bytes
+}
+
+// The unit whose record these bytes are; bytes that are nobody's record mean no unit.
+pub fn decode(bytes: &[u8]) -> TagUnit
+    ensures { λ r. ⌜ r ≡ decoded (now (bytes .entry)) ⌝ }
+{
+    if bytes.len() != RECORD_SIZE {
+        return change::no_unit();
+    }
+    let u = fields(bytes);
+    let again = record(u);
+    if !octets::same(&again, bytes) {
+        return change::no_unit();
+    }
+    u
+}

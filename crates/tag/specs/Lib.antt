@@ -1,5 +1,2 @@
-pub mod Time
-pub mod Frame
+pub mod Own
 pub mod Calls
-pub mod Passes
-pub mod Later

@@ -1,56 +1,61 @@
 // Adding an account key.
 ghost use mathlib.Core.Path.{_≡_};
-ghost use Prim.Native.Nat.{_≤_};
+ghost use mathlib.Core.Bool.{true};
+ghost use Prim.Native.Nat.{_<_};
 ghost use lib.ListN.{length};
+ghost use Rattle.sizes.specs.Sizes.{accountKeySize, mostKeys};
+ghost use Rattle.unit.specs.Change.{withNewKey};
 ghost use Rattle.unit.specs.Outcome.{Settles};
-ghost use Rattle.tag.specs.Calls.{withNewKey, keeping};
-use unit::AccountKey;
+ghost use Rattle.tables.specs.Rows.{among};
+ghost use Rattle.unit.specs.WellFormed.{accountsLegal, heldKeys};
+ghost use Rattle.tag.specs.Own.{keeping};
+use sizes::ACCOUNT_KEY_SIZE;
+use sizes::MOST_KEYS;
 use unit::Accounts;
 use unit::Refusal;
 use unit::Step;
 use unit::TagUnit;
 use unit::end;
-use unit::legal;
 
-// Sixteen bytes of a slice.
-fn sixteen(s: &[u8]) -> [u8; 16]
-    requires { ⌜ length (now s) ≡ 16 ⌝ }
-    ensures { λ r. ⌜ r ≡ now (s .entry) ⌝ }
+// Whether a key is held.
+fn held(a: Accounts, key: &[u8]) -> bool
+    requires { ⌜ accountsLegal a ≡ true ⌝ }
+    ensures { λ r. ⌜ r ≡ among (now (key .entry)) (heldKeys a) ⌝ }
 {
-    let mut bytes = [0u8; 16];
-    wire::answer::put(&mut bytes, 0, s);
-    bytes
+    let keys = a.keys;
+    tables::among(key, &keys, ACCOUNT_KEY_SIZE, 0, a.count)
 }
 
 // The accounts with one key more, behind those held.
-fn with_new_key(key: [u8; 16], a: Accounts) -> Accounts
-    requires { ⌜ a .count ≤ 4 ⌝ }
-    ensures { λ r. ⌜ r ≡ withNewKey key a ⌝ }
+fn with_new_key(a: Accounts, key: &[u8]) -> Accounts
+    requires { ⌜ (a .count < mostKeys) × (length (now key) ≡ accountKeySize) ⌝ }
+    ensures { λ r. ⌜ r ≡ withNewKey (now (key .entry)) a ⌝ }
 {
     let count = a.count;
-    let mut after = a;
-    let k = AccountKey { bytes: key };
-    after.keys[count] = k;
-    after.count = count + 1;
-    after
+    let owner = a.owner;
+    let mut keys = a.keys;
+    octets::put(&mut keys, count * ACCOUNT_KEY_SIZE, key);
+    Accounts {
+        count: count + 1,
+        owner,
+        keys,
+    }
 }
 
 // Adds a key to a well-formed unit.
 pub fn added(u: TagUnit, key: &[u8]) -> Step
-    requires { ⌜ u .accounts .count ≤ 5 ⌝ }
+    requires { ⌜ accountsLegal (u .accounts) ≡ true ⌝ }
     ensures { λ r. ⌜ Settles (keeping (now (key .entry)) u) (r .unit) (r .reply) ⌝ }
 {
-    if key.len() != 16 {
+    if key.len() != ACCOUNT_KEY_SIZE {
         return end::refuse(u, Refusal::WrongAccountKey);
     }
     let a = u.accounts;
-    let keys = a.keys;
-    let count = a.count;
-    if legal::among(key, keys, 0, count) {
+    if held(a, key) {
         return end::accept(u, 0);
     }
-    if count < legal::MOST_KEYS {
-        let more = with_new_key(sixteen(key), a);
+    if a.count < MOST_KEYS {
+        let more = with_new_key(a, key);
         let mut after = u;
         after.accounts = more;
         return end::accept(after, 0);

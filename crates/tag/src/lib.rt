@@ -5,9 +5,15 @@ ghost use mathlib.Core.Path.{_≡_};
 ghost use lib.ListN.{length};
 ghost use Rattle.unit.specs.declared.Reply.{Reply};
 ghost use Rattle.unit.specs.declared.Refusal.{Refusal};
+ghost use Rattle.unit.specs.Change.{noUnit};
 ghost use Rattle.unit.specs.Outcome.{Answers, Settles};
-ghost use Rattle.tag.specs.Calls.{noUnit, newUnit, read as readOf, write as writeOf, button as buttonOf, elapsed as elapsedOf, setPairing, setBattery, addKey, lendIdentifier, frame as frameOf};
-ghost use Rattle.tag.specs.Passes.{Passes};
+ghost use Rattle.time.specs.Passing.{Passes};
+ghost use Rattle.tag.specs.Calls.{newUnit, call, elapsed as elapsedOf};
+ghost use Rattle.tag.specs.Calls as of;
+use sizes::ANSWER_ROOM;
+use sizes::HIGHEST_BATTERY;
+use sizes::MOST_COMPONENTS;
+use time::Passed;
 use unit::Refusal;
 use unit::Reply;
 use unit::Settings;
@@ -15,44 +21,20 @@ use unit::Step;
 use unit::TagUnit;
 use unit::change;
 use unit::end;
-use unit::legal;
+use unit::well_formed;
 
 mod accounts;
-mod frame;
+mod advertising;
 mod identifier;
 mod nonce;
-mod sound;
-mod time;
-
-// The fewest answer bytes that a call with an answer takes.
-pub const ANSWER_ROOM: usize = 42;
-
-// The hashed flags byte of a frame, where there is one.
-pub enum Flags {
-    LeftOut,
-    Shown(u8),
-}
-
-// A step of time: the unit, the end, and the tenth, counted from the call's start, at which a ring ended, or 0.
-pub struct Passed {
-    pub unit: TagUnit,
-    pub reply: Reply,
-    pub ended: u32,
-}
+mod press;
 
 // The end of a new unit that is refused: a record that is not well formed.
 fn no_unit() -> Step
     ensures { λ r. ⌜ (r .unit ≡ noUnit) × (r .reply ≡ Reply.Refused Refusal.OutOfRange) ⌝ }
 {
-    let s = Settings {
-        power: 0,
-        components: 0,
-        selectable: 0,
-    };
-    let mut none = change::fresh(s);
-    none.battery = 255;
     Step {
-        unit: none,
+        unit: change::no_unit(),
         reply: Reply::Refused(Refusal::OutOfRange),
     }
 }
@@ -61,13 +43,13 @@ fn no_unit() -> Step
 pub fn new_unit(power: i32, components: u32, selectable: u32) -> Step
     ensures { λ r. ⌜ Settles (newUnit power components selectable) (r .unit) (r .reply) ⌝ }
 {
-    if 3 < components {
+    if (MOST_COMPONENTS as u32) < components {
         return no_unit();
     }
     if 1 < selectable {
         return no_unit();
     }
-    if legal::power_legal(power) {
+    if well_formed::power_legal(power) {
         let s = Settings {
             power,
             components: components as u8,
@@ -80,12 +62,12 @@ pub fn new_unit(power: i32, components: u32, selectable: u32) -> Step
 
 // Read: issues the lent nonce, and answers with 0x01 and the nonce. Refusals: 6, 2, 3.
 pub fn read(u: TagUnit, lent: &[u8], answer: &mut [u8]) -> Step
-    ensures { λ r. ⌜ Answers (readOf (now (lent .entry)) (length (now (answer .entry))) u) (r .unit) (r .reply) (now (answer .entry)) (now (answer .exit)) ⌝ }
+    ensures { λ r. ⌜ Answers (call (of.read (now (lent .entry))) (length (now (answer .entry))) u) (r .unit) (r .reply) (now (answer .entry)) (now (answer .exit)) ⌝ }
 {
     if answer.len() < ANSWER_ROOM {
         return end::refuse(u, Refusal::NoRoom);
     }
-    if legal::well_formed(u) {
+    if well_formed::well_formed(u) {
         return nonce::issued(u, lent, answer);
     }
     end::refuse(u, Refusal::NotWellFormed)
@@ -93,26 +75,26 @@ pub fn read(u: TagUnit, lent: &[u8], answer: &mut [u8]) -> Step
 
 // Write: a request of the phone's. Refusals: 6, 2, and then, with the nonce spent, 0x81 for its shape, 0x80, 0x81 for its values, 0x82.
 pub fn write(u: TagUnit, w: &[u8], answer: &mut [u8]) -> Step
-    ensures { λ r. ⌜ Answers (writeOf (now (w .entry)) (length (now (answer .entry))) u) (r .unit) (r .reply) (now (answer .entry)) (now (answer .exit)) ⌝ }
+    ensures { λ r. ⌜ Answers (call (of.write (record { bytes = now (w .entry) })) (length (now (answer .entry))) u) (r .unit) (r .reply) (now (answer .entry)) (now (answer .exit)) ⌝ }
 {
     if answer.len() < ANSWER_ROOM {
         return end::refuse(u, Refusal::NoRoom);
     }
-    if legal::well_formed(u) {
-        return requests::handle::write(u, w, answer);
+    if well_formed::well_formed(u) {
+        return requests::write(u, w, answer);
     }
     end::refuse(u, Refusal::NotWellFormed)
 }
 
 // Button: stops a ring, with a notice; while silent gives consent. Refusals: 6, 2.
 pub fn button(u: TagUnit, answer: &mut [u8]) -> Step
-    ensures { λ r. ⌜ Answers (buttonOf (length (now (answer .entry))) u) (r .unit) (r .reply) (now (answer .entry)) (now (answer .exit)) ⌝ }
+    ensures { λ r. ⌜ Answers (call of.button (length (now (answer .entry))) u) (r .unit) (r .reply) (now (answer .entry)) (now (answer .exit)) ⌝ }
 {
     if answer.len() < ANSWER_ROOM {
         return end::refuse(u, Refusal::NoRoom);
     }
-    if legal::well_formed(u) {
-        return sound::pressed(u, answer);
+    if well_formed::well_formed(u) {
+        return press::pressed(u, answer);
     }
     end::refuse(u, Refusal::NotWellFormed)
 }
@@ -122,19 +104,19 @@ pub fn elapsed(u: TagUnit, tenths: u32, answer: &mut [u8]) -> Passed
     ensures { λ r. ⌜ Passes (elapsedOf tenths (length (now (answer .entry))) u) (r .unit) (r .reply) (r .ended) (now (answer .entry)) (now (answer .exit)) ⌝ }
 {
     if answer.len() < ANSWER_ROOM {
-        return time::stopped(u, Refusal::NoRoom);
+        return time::refused(u, Refusal::NoRoom);
     }
-    if legal::well_formed(u) {
-        return time::passed(u, tenths, answer);
+    if well_formed::well_formed(u) {
+        return time::elapse(u, tenths, answer);
     }
-    time::stopped(u, Refusal::NotWellFormed)
+    time::refused(u, Refusal::NotWellFormed)
 }
 
 // Pairing mode on or off. Refusal: 2.
 pub fn pairing(u: TagUnit, on: bool) -> Step
-    ensures { λ r. ⌜ Settles (setPairing on u) (r .unit) (r .reply) ⌝ }
+    ensures { λ r. ⌜ Settles (call (of.pairing on) 0 u) (r .unit) (r .reply) ⌝ }
 {
-    if legal::well_formed(u) {
+    if well_formed::well_formed(u) {
         let mut after = u;
         after.pairing = on;
         return end::accept(after, 0);
@@ -144,10 +126,10 @@ pub fn pairing(u: TagUnit, on: bool) -> Step
 
 // The battery level, 0 to 3. Refusals: 2, 1.
 pub fn battery(u: TagUnit, level: u32) -> Step
-    ensures { λ r. ⌜ Settles (setBattery level u) (r .unit) (r .reply) ⌝ }
+    ensures { λ r. ⌜ Settles (call (of.battery level) 0 u) (r .unit) (r .reply) ⌝ }
 {
-    if legal::well_formed(u) {
-        if level <= 3 {
+    if well_formed::well_formed(u) {
+        if level <= (HIGHEST_BATTERY as u32) {
             let mut after = u;
             after.battery = level as u8;
             return end::accept(after, 0);
@@ -159,9 +141,9 @@ pub fn battery(u: TagUnit, level: u32) -> Step
 
 // Adds an account key; one already held changes nothing. Refusals: 2, 4.
 pub fn account_key(u: TagUnit, key: &[u8]) -> Step
-    ensures { λ r. ⌜ Settles (addKey (now (key .entry)) u) (r .unit) (r .reply) ⌝ }
+    ensures { λ r. ⌜ Settles (call (of.accountKey (now (key .entry))) 0 u) (r .unit) (r .reply) ⌝ }
 {
-    if legal::well_formed(u) {
+    if well_formed::well_formed(u) {
         return accounts::added(u, key);
     }
     end::refuse(u, Refusal::NotWellFormed)
@@ -169,9 +151,9 @@ pub fn account_key(u: TagUnit, key: &[u8]) -> Step
 
 // Lends the identifier for the current window, with its r. Refusals: 2, 1, 5.
 pub fn lend_identifier(u: TagUnit, r: &[u8], id: &[u8]) -> Step
-    ensures { λ s. ⌜ Settles (lendIdentifier (now (r .entry)) (now (id .entry)) u) (s .unit) (s .reply) ⌝ }
+    ensures { λ s. ⌜ Settles (call (of.identifier (now (r .entry)) (now (id .entry))) 0 u) (s .unit) (s .reply) ⌝ }
 {
-    if legal::well_formed(u) {
+    if well_formed::well_formed(u) {
         return identifier::lent(u, r, id);
     }
     end::refuse(u, Refusal::NotWellFormed)
@@ -179,13 +161,13 @@ pub fn lend_identifier(u: TagUnit, r: &[u8], id: &[u8]) -> Step
 
 // The advertised frame, 28 or 29 bytes. Refusals: 6, 2, 5.
 pub fn advertise(u: TagUnit, answer: &mut [u8]) -> Step
-    ensures { λ r. ⌜ Answers (frameOf (length (now (answer .entry))) u) (r .unit) (r .reply) (now (answer .entry)) (now (answer .exit)) ⌝ }
+    ensures { λ r. ⌜ Answers (call of.frame (length (now (answer .entry))) u) (r .unit) (r .reply) (now (answer .entry)) (now (answer .exit)) ⌝ }
 {
     if answer.len() < ANSWER_ROOM {
         return end::refuse(u, Refusal::NoRoom);
     }
-    if legal::well_formed(u) {
-        return frame::shown(u, answer);
+    if well_formed::well_formed(u) {
+        return advertising::shown(u, answer);
     }
     end::refuse(u, Refusal::NotWellFormed)
 }

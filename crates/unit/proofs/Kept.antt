@@ -1,5 +1,5 @@
 -- What keeps a unit well formed: the fresh unit is, and each change of specs/Change keeps it so under its own condition.
--- Each law goes by the lines: those that a change does not touch are the unit's own. Assumes nothing.
+-- Each law goes by the lines: those that a change does not touch are the unit's own.
 use Prim.Native.Nat.{ℕ, _%_, _≤_, _<_}
 use mathlib.Core.Path.{_≡_, refl}
 use mathlib.Core.Bool.{Bool, true, false, not, _&&_, _||_, false≢true}
@@ -7,14 +7,16 @@ use mathlib.Core.List.{List}
 use mathlib.Core.Logic.{_⊎_, inl, inr}
 use native.Mathlib.Omega.{arith}
 use lib.Dec.{eqb}
+use lib.ListN.{length}
 use borrow.Author.Needs.{needs}
 use borrow.Author.Tests.{lt-ltb, eq-eqb}
 use Rattle.laws.specs.Bytes.{allZero}
 use Rattle.laws.proofs.Flags.{and-right, both, or-left, or-right, or-rest, true-or-false}
 use Rattle.laws.proofs.Same.{replicate-zeros}
-use Rattle.unit.specs.Change.{fresh, noIdentifier, withClock, withNonce, withAccounts, withOwner, withIdentity, withProtection, withConsent, withPairing, withBattery, withIdentifier, withSound, silenced, spent}
-use Rattle.unit.specs.Numbers.{windowLength, window}
-use Rattle.unit.specs.WellFormed.{settingsLegal, among, distinct, zeros, heldKeys, ownerLegal, owned, identityLegal, nonceLegal, soundLegal, protectionLegal, identifierLegal, wellFormed}
+use Rattle.unit.specs.Change.{fresh, noIdentifier, withClock, withNonce, withAccounts, withOwner, withNewKey, withIdentity, withProtection, withConsent, withPairing, withBattery, withIdentifier, withSound, silenced, spent}
+use Rattle.sizes.specs.Sizes.{accountKeySize, mostKeys, nonceSize, fullConsent, highestBattery, windowLength, window}
+use Rattle.tables.specs.Rows.{rows, among, distinct}
+use Rattle.unit.specs.WellFormed.{settingsLegal, heldKeys, ownerLegal, owned, identityLegal, nonceLegal, soundLegal, protectionLegal, identifierLegal, wellFormed}
 use Rattle.unit.specs.declared.TagUnit.{TagUnit}
 use Rattle.unit.specs.declared.Settings.{Settings}
 use Rattle.unit.specs.declared.Clock.{Clock}
@@ -24,17 +26,17 @@ use Rattle.unit.specs.declared.Identity.{Identity}
 use Rattle.unit.specs.declared.Identifier.{Identifier}
 use Rattle.unit.specs.declared.Sound.{Sound}
 use Rattle.unit.specs.declared.Protection.{Protection}
-use Rattle.unit.proofs.Lines.{RingLines, lines, formed, settings-lines, ring-legal}
-use Rattle.unit.proofs.Adding.{added, accounts-added, owner-added}
+use Rattle.unit.proofs.Lines.{AccountsLines, RingLines, lines, formed, settings-lines, ring-legal}
+use Rattle.unit.proofs.Adding.{accounts-added, owner-added}
 
 pub fresh-formed : (s : Settings) → settingsLegal s ≡ true → wellFormed (fresh s) ≡ true
-unfolding heldKeys distinct zeros ownerLegal identityLegal nonceLegal soundLegal identifierLegal allZero
+unfolding heldKeys rows distinct ownerLegal identityLegal nonceLegal soundLegal identifierLegal allZero
 fresh-formed s h =
     formed (fresh s)
     (record {
       settings = settings-lines s h;
       tenth = search needs;
-      accounts = record { count = search needs; different = refl; spare = refl };
+      accounts = record { room = refl; count = search needs; different = refl; spare = refl };
       owner = refl;
       identity = refl;
       nonce = refl;
@@ -53,7 +55,7 @@ spent-legal n h = go (true-or-false (n .held))
     go (inl e) = or-left _ e
     go (inr e) = or-right (n .held) (and-right (not (n .live)) _ (or-rest _ e h))
 
--- An owner's place and an identity key: any place will do, and none will do without the key
+-- An owner's place and an identity key: any place will do
 placed-legal : (place : ℕ) (k : Identity) (o : Owner) → identityLegal k o ≡ true → identityLegal k (Owner.Place place) ≡ true
 unfolding identityLegal
 placed-legal place k o h = go (true-or-false (k .held))
@@ -61,10 +63,6 @@ placed-legal place k o h = go (true-or-false (k .held))
     go : (k .held ≡ true) ⊎ (k .held ≡ false) → (k .held && true) || (not (k .held) && allZero (k .bytes)) ≡ true
     go (inl e) = rw e
     go (inr e) = rw e (rw e at h)
-
-unowned-legal : (k : Identity) (o : Owner) → k .held ≡ false → identityLegal k o ≡ true → identityLegal k Owner.Nobody ≡ true
-unfolding identityLegal
-unowned-legal k o e h = rw e (rw e at h)
 
 -- What is legal without an identity key is so with one
 sound-keyed : (x : Sound) (nonce : List ℕ) (s : Settings) (keyed : Bool) → soundLegal x nonce s keyed ≡ true → soundLegal x nonce s true ≡ true
@@ -93,10 +91,10 @@ module _ (u : TagUnit) (w : wellFormed u ≡ true) where
   pub clock-kept : (c : Clock) → c .tenth ≤ 9 → wellFormed (withClock c u) ≡ true
   clock-kept c h = let l = lines u w in formed (withClock c u) (search needs)
 
-  pub consent-kept : (n : ℕ) → n ≤ 600 → wellFormed (withConsent n u) ≡ true
+  pub consent-kept : (n : ℕ) → n ≤ fullConsent → wellFormed (withConsent n u) ≡ true
   consent-kept n h = let l = lines u w in formed (withConsent n u) (search needs)
 
-  pub battery-kept : (n : ℕ) → n ≤ 3 → wellFormed (withBattery n u) ≡ true
+  pub battery-kept : (n : ℕ) → n ≤ highestBattery → wellFormed (withBattery n u) ≡ true
   battery-kept n h = let l = lines u w in formed (withBattery n u) (search needs)
 
   pub pairing-kept : (on : Bool) → wellFormed (withPairing on u) ≡ true
@@ -112,30 +110,25 @@ module _ (u : TagUnit) (w : wellFormed u ≡ true) where
   pub spent-kept : wellFormed (spent u) ≡ true
   spent-kept = nonce-kept (spent u .nonce) (spent-legal (u .nonce) (lines u w .nonce))
 
-  pub accounts-kept : (key : List ℕ) → u .accounts .count < 5 → among key (heldKeys (u .accounts)) ≡ false
-      → wellFormed (withAccounts (added key (u .accounts)) u) ≡ true
-  accounts-kept key few new =
+  pub accounts-kept : (key : List ℕ) → length key ≡ accountKeySize → u .accounts .count < mostKeys → among key (heldKeys (u .accounts)) ≡ false
+      → wellFormed (withAccounts (withNewKey key (u .accounts)) u) ≡ true
+  accounts-kept key sized few new =
       let l = lines u w in
-      let accounts = accounts-added key (u .accounts) few new (l .accounts) in
-      let owner = owner-added key (u .accounts) (u .owner) (l .owner) in
-      formed (withAccounts (added key (u .accounts)) u) (search needs)
+      let accounts = accounts-added key (u .accounts) (l .accounts) sized few new in
+      let owner = owner-added key (u .accounts) (l .owner) in
+      formed (withAccounts (withNewKey key (u .accounts)) u) (search needs)
 
-  pub owner-kept : (place : ℕ) → place < u .accounts .count → wellFormed (withOwner (Owner.Place place) u) ≡ true
-  unfolding ownerLegal
+  pub owner-kept : (place : ℕ) → place < u .accounts .count → wellFormed (withAccounts (withOwner (Owner.Place place) (u .accounts)) u) ≡ true
+  unfolding ownerLegal heldKeys
   owner-kept place h =
       let l = lines u w in
+      let accounts : AccountsLines (withOwner (Owner.Place place) (u .accounts)) =
+      record { room = l .accounts .room; count = l .accounts .count; different = l .accounts .different; spare = l .accounts .spare } in
       let owner = lt-ltb place (u .accounts .count) h in
-      let identity = placed-legal place (u .identity) (u .owner) (l .identity) in
-      formed (withOwner (Owner.Place place) u) (search needs)
+      let identity = placed-legal place (u .identity) (u .accounts .owner) (l .identity) in
+      formed (withAccounts (withOwner (Owner.Place place) (u .accounts)) u) (search needs)
 
-  pub nobody-kept : u .identity .held ≡ false → wellFormed (withOwner Owner.Nobody u) ≡ true
-  unfolding ownerLegal
-  nobody-kept h =
-      let l = lines u w in
-      let identity = unowned-legal (u .identity) (u .owner) h (l .identity) in
-      formed (withOwner Owner.Nobody u) (search needs)
-
-  pub identity-kept : (bytes : List ℕ) → owned (u .owner) ≡ true → wellFormed (withIdentity (record { held = true; bytes = bytes }) u) ≡ true
+  pub identity-kept : (bytes : List ℕ) → owned (u .accounts .owner) ≡ true → wellFormed (withIdentity (record { held = true; bytes = bytes }) u) ≡ true
   unfolding identityLegal
   identity-kept bytes h =
       let l = lines u w in
@@ -149,7 +142,7 @@ module _ (u : TagUnit) (w : wellFormed u ≡ true) where
   unfolding soundLegal
   silenced-kept =
       let l = lines u w in
-      let sound = replicate-zeros 8 in
+      let sound = replicate-zeros nonceSize in
       formed (silenced u) (search needs)
 
   pub ring-kept : (mask volume left : ℕ) (nonce : List ℕ) → RingLines mask volume left (u .settings) (u .identity .held)

@@ -1,5 +1,5 @@
 pub mod Power
-pub mod Keys
 pub mod Lines
 pub mod Adding
 pub mod Kept
+pub mod Ends

@@ -1,17 +1,20 @@
 -- Well-formedness by its lines: `wellFormed u ≡ true` exactly if every line of "What a unit holds" is met, each by a name.
--- Assumes nothing.
-use Prim.Native.Nat.{ℕ, _%_, _≤_, _<_}
+use Prim.Native.Nat.{ℕ, _*_, _%_, _≤_, _<_}
 use mathlib.Core.Path.{_≡_, sym, ap, _∙_}
-use mathlib.Core.List.{List}
+use mathlib.Core.List.{List, []}
 use mathlib.Core.Bool.{Bool, true, false, not, _&&_, _||_}
 use mathlib.Core.Logic.{_⊎_, inl, inr}
-use lib.ListN.{drop}
+use lib.ListN.{length, getD, drop}
+use native.Mathlib.Omega.{arith}
 use lib.Dec.{leb, eqb}
 use borrow.Author.Tests.{ltb-true, leb-true, le-leb, eqb-true, eqb-false, eq-eqb, ne-eqb, not-true}
 use Rattle.laws.specs.Bytes.{allZero}
 use Rattle.laws.proofs.Flags.{true-or-false, and-left, and-right, both, or-left, or-right, or-rest, or-false}
-use Rattle.unit.specs.WellFormed.{powerLegal, settingsLegal, keyBytes, heldKeys, distinct, zeros, accountsLegal, ownerLegal, owned, identityLegal, nonceLegal, inside, soundLegal, protectionLegal, identifierLegal, wellFormed}
-use Rattle.unit.specs.Numbers.{mostComponents, mostKeys, highestVolume, highestBattery, fullConsent, windowLength}
+use Rattle.tables.specs.Rows.{distinct}
+use Rattle.tables.proofs.Rows.{length-rows, length-row}
+use Rattle.unit.specs.Ringable.{inside}
+use Rattle.unit.specs.WellFormed.{powerLegal, settingsLegal, heldKeys, accountsLegal, ownerLegal, owned, identityLegal, nonceLegal, soundLegal, protectionLegal, identifierLegal, wellFormed}
+use Rattle.sizes.specs.Sizes.{mostComponents, accountKeySize, mostKeys, keysRoom, highestVolume, highestBattery, fullConsent, windowLength}
 use Rattle.unit.specs.declared.TagUnit.{TagUnit}
 use Rattle.unit.specs.declared.Settings.{Settings}
 use Rattle.unit.specs.declared.Accounts.{Accounts}
@@ -25,16 +28,17 @@ pub record SettingsLines (s : Settings) : Type 0 where
   pub selectable : s .selectable ≤ 1
 
 pub record AccountsLines (a : Accounts) : Type 0 where
-  pub count : a .count ≤ 5
+  pub room : length (a .keys) ≡ keysRoom
+  pub count : a .count ≤ mostKeys
   pub different : distinct (heldKeys a) ≡ true
-  pub spare : zeros (drop (a .count) (keyBytes (a .keys))) ≡ true
+  pub spare : allZero (drop (a .count * accountKeySize) (a .keys)) ≡ true
 
 pub record Lines (u : TagUnit) : Type 0 where
   pub settings : SettingsLines (u .settings)
   pub tenth : u .clock .tenth ≤ 9
   pub accounts : AccountsLines (u .accounts)
-  pub owner : ownerLegal (u .owner) (u .accounts) ≡ true
-  pub identity : identityLegal (u .identity) (u .owner) ≡ true
+  pub owner : ownerLegal (u .accounts) ≡ true
+  pub identity : identityLegal (u .identity) (u .accounts .owner) ≡ true
   pub nonce : nonceLegal (u .nonce) ≡ true
   pub sound : soundLegal (u .sound) (u .«ring_nonce») (u .settings) (u .identity .held) ≡ true
   pub protection : protectionLegal (u .protection) (u .identity .held) ≡ true
@@ -59,16 +63,18 @@ settings-legal s l = both (l .power) (both (le-leb _ _ (l .components)) (le-leb 
 pub accounts-lines : (a : Accounts) → accountsLegal a ≡ true → AccountsLines a
 unfolding accountsLegal
 accounts-lines a h =
-    let rest = and-right (leb (a .count) mostKeys) _ h in
+    let from-count = and-right (eqb (length (a .keys)) keysRoom) _ h in
+    let rest = and-right (leb (a .count) mostKeys) _ from-count in
     record {
-      count = leb-true _ _ (and-left _ _ h);
+      room = eqb-true _ _ (and-left _ _ h);
+      count = leb-true _ _ (and-left _ _ from-count);
       different = and-left _ _ rest;
       spare = and-right (distinct (heldKeys a)) _ rest;
     }
 
 pub accounts-legal : (a : Accounts) → AccountsLines a → accountsLegal a ≡ true
 unfolding accountsLegal
-accounts-legal a l = both (le-leb _ _ (l .count)) (both (l .different) (l .spare))
+accounts-legal a l = both (eq-eqb _ _ (l .room)) (both (le-leb _ _ (l .count)) (both (l .different) (l .spare)))
 
 pub lines : (u : TagUnit) → wellFormed u ≡ true → Lines u
 unfolding wellFormed
@@ -76,8 +82,8 @@ lines u h =
     let from-tenth = and-right (settingsLegal (u .settings)) _ h in
     let from-accounts = and-right (leb (u .clock .tenth) 9) _ from-tenth in
     let from-owner = and-right (accountsLegal (u .accounts)) _ from-accounts in
-    let from-identity = and-right (ownerLegal (u .owner) (u .accounts)) _ from-owner in
-    let from-nonce = and-right (identityLegal (u .identity) (u .owner)) _ from-identity in
+    let from-identity = and-right (ownerLegal (u .accounts)) _ from-owner in
+    let from-nonce = and-right (identityLegal (u .identity) (u .accounts .owner)) _ from-identity in
     let from-sound = and-right (nonceLegal (u .nonce)) _ from-nonce in
     let from-protection = and-right (soundLegal (u .sound) (u .«ring_nonce») (u .settings) (u .identity .held)) _ from-sound in
     let from-consent = and-right (protectionLegal (u .protection) (u .identity .held)) _ from-protection in
@@ -178,13 +184,24 @@ module _ (mask volume left : ℕ) (nonce : List ℕ) (s : Settings) (keyed : Boo
       (both (fixed-test (s .selectable) volume (l .atVolume .fixed))
       (both (le-leb _ _ (l .least)) (le-leb _ _ (l .most))))))
 
+-- The keys held: how many, and how long each is
+pub held-count : (a : Accounts) → length (heldKeys a) ≡ a .count
+unfolding heldKeys
+held-count a = length-rows accountKeySize (a .count) (a .keys)
+
+pub key-length : (a : Accounts) (place : ℕ) → AccountsLines a → place < length (heldKeys a) → length (getD (heldKeys a) place []) ≡ accountKeySize
+unfolding heldKeys
+key-length a place l h =
+    length-row accountKeySize (a .count) (a .keys) place (omega (arith, length-rows accountKeySize (a .count) (a .keys)))
+    (omega (arith, l .room, l .count))
+
 -- What a well-formed unit's owner, sound, protection and identifier say of the rest
 module _ {u : TagUnit} (l : Lines u) where
-  pub owner-held : (place : ℕ) → u .owner ≡ Owner.Place place → place < u .accounts .count
+  pub owner-held : (place : ℕ) → u .accounts .owner ≡ Owner.Place place → place < u .accounts .count
   unfolding ownerLegal
   owner-held place e = ltb-true place (u .accounts .count) (rw e at (l .owner))
 
-  pub identity-owned : u .identity .held ≡ true → owned (u .owner) ≡ true
+  pub identity-owned : u .identity .held ≡ true → owned (u .accounts .owner) ≡ true
   unfolding identityLegal
   identity-owned e = sym (or-false _) ∙ (rw e at (l .identity))
 

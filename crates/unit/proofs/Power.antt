@@ -1,4 +1,4 @@
--- Calibrated power from -100 to 20, as two signed comparisons tell it. Assumes nothing.
+-- Calibrated power from -100 to 20, as two signed comparisons tell it.
 use mathlib.Core.Path.{_≡_, refl}
 use mathlib.Core.Bool.{true, false}
 use lib.IntN.{ℤ, pos, negsuc}

@@ -1,9 +1,11 @@
--- The unit with one thing changed, and the one form of each absent thing. Assumes nothing.
-use Prim.Native.Nat.{ℕ}
+-- The unit with one thing changed, and the one form of each absent thing.
+use Prim.Native.Nat.{ℕ, _+_, _*_}
 use mathlib.Core.Bool.{Bool, false}
 use mathlib.Core.List.{List}
 use lib.ListN.{replicate}
-use Rattle.unit.specs.Numbers.{nonceBytes, mostKeys, accountKeyBytes, identityBytes, identifierBytes}
+use lib.IntN.{pos}
+use Rattle.sizes.specs.Sizes.{nonceSize, accountKeySize, keysRoom, identityKeySize, identifierSize}
+use Rattle.octets.specs.Put.{pasted}
 use Rattle.unit.specs.declared.TagUnit.{TagUnit}
 use Rattle.unit.specs.declared.Settings.{Settings}
 use Rattle.unit.specs.declared.Clock.{Clock}
@@ -17,20 +19,20 @@ use Rattle.unit.specs.declared.Identifier.{Identifier}
 
 -- What is absent has zeros in its room
 abbrev pub noNonce : Nonce
-noNonce = record { held = false; live = false; bytes = replicate nonceBytes 0 }
+noNonce = record { held = false; live = false; bytes = replicate nonceSize 0 }
 
 abbrev pub noAccounts : Accounts
-noAccounts = record { count = 0; keys = replicate mostKeys (record { bytes = replicate accountKeyBytes 0 }) }
+noAccounts = record { count = 0; owner = Owner.Nobody; keys = replicate keysRoom 0 }
 
 abbrev pub noIdentity : Identity
-noIdentity = record { held = false; bytes = replicate identityBytes 0 }
+noIdentity = record { held = false; bytes = replicate identityKeySize 0 }
 
 abbrev pub noIdentifier : Identifier
-noIdentifier = record { held = false; r = replicate identifierBytes 0; id = replicate identifierBytes 0; window = 0 }
+noIdentifier = record { held = false; r = replicate identifierSize 0; id = replicate identifierSize 0; window = 0 }
 
 -- the nonce beside a silent sound
 abbrev pub noRingNonce : List ℕ
-noRingNonce = replicate nonceBytes 0
+noRingNonce = replicate nonceSize 0
 
 -- Fresh: no keys, nonce, sound, protection, consent, pairing or identifier; battery 0; the clock starts at 0
 abbrev pub fresh : Settings → TagUnit
@@ -40,7 +42,6 @@ fresh s =
       clock = record { seconds = 0; tenth = 0 };
       nonce = noNonce;
       accounts = noAccounts;
-      owner = Owner.Nobody;
       identity = noIdentity;
       sound = Sound.Silent;
       «ring_nonce» = noRingNonce;
@@ -51,15 +52,14 @@ fresh s =
       identifier = noIdentifier;
     }
 
--- a unit of its thirteen parts
-abbrev pub unitOf : Settings → Clock → Nonce → Accounts → Owner → Identity → Sound → List ℕ → Protection → ℕ → Bool → ℕ → Identifier → TagUnit
-unitOf s c n a o k v m p t g b i =
+-- a unit of its parts
+abbrev pub unitOf : Settings → Clock → Nonce → Accounts → Identity → Sound → List ℕ → Protection → ℕ → Bool → ℕ → Identifier → TagUnit
+unitOf s c n a k v m p t g b i =
     record {
       settings = s;
       clock = c;
       nonce = n;
       accounts = a;
-      owner = o;
       identity = k;
       sound = v;
       «ring_nonce» = m;
@@ -73,48 +73,52 @@ unitOf s c n a o k v m p t g b i =
 -- the unit with one part changed
 abbrev pub withClock : Clock → TagUnit → TagUnit
 withClock c u =
-    unitOf (u .settings) c (u .nonce) (u .accounts) (u .owner) (u .identity) (u .sound) (u .«ring_nonce») (u .protection) (u .consent) (u .pairing) (u .battery) (u .identifier)
+    unitOf (u .settings) c (u .nonce) (u .accounts) (u .identity) (u .sound) (u .«ring_nonce») (u .protection) (u .consent) (u .pairing) (u .battery) (u .identifier)
 
 abbrev pub withNonce : Nonce → TagUnit → TagUnit
 withNonce n u =
-    unitOf (u .settings) (u .clock) n (u .accounts) (u .owner) (u .identity) (u .sound) (u .«ring_nonce») (u .protection) (u .consent) (u .pairing) (u .battery) (u .identifier)
+    unitOf (u .settings) (u .clock) n (u .accounts) (u .identity) (u .sound) (u .«ring_nonce») (u .protection) (u .consent) (u .pairing) (u .battery) (u .identifier)
 
 abbrev pub withAccounts : Accounts → TagUnit → TagUnit
 withAccounts a u =
-    unitOf (u .settings) (u .clock) (u .nonce) a (u .owner) (u .identity) (u .sound) (u .«ring_nonce») (u .protection) (u .consent) (u .pairing) (u .battery) (u .identifier)
-
-abbrev pub withOwner : Owner → TagUnit → TagUnit
-withOwner o u =
-    unitOf (u .settings) (u .clock) (u .nonce) (u .accounts) o (u .identity) (u .sound) (u .«ring_nonce») (u .protection) (u .consent) (u .pairing) (u .battery) (u .identifier)
+    unitOf (u .settings) (u .clock) (u .nonce) a (u .identity) (u .sound) (u .«ring_nonce») (u .protection) (u .consent) (u .pairing) (u .battery) (u .identifier)
 
 abbrev pub withIdentity : Identity → TagUnit → TagUnit
 withIdentity k u =
-    unitOf (u .settings) (u .clock) (u .nonce) (u .accounts) (u .owner) k (u .sound) (u .«ring_nonce») (u .protection) (u .consent) (u .pairing) (u .battery) (u .identifier)
+    unitOf (u .settings) (u .clock) (u .nonce) (u .accounts) k (u .sound) (u .«ring_nonce») (u .protection) (u .consent) (u .pairing) (u .battery) (u .identifier)
 
 abbrev pub withProtection : Protection → TagUnit → TagUnit
 withProtection p u =
-    unitOf (u .settings) (u .clock) (u .nonce) (u .accounts) (u .owner) (u .identity) (u .sound) (u .«ring_nonce») p (u .consent) (u .pairing) (u .battery) (u .identifier)
+    unitOf (u .settings) (u .clock) (u .nonce) (u .accounts) (u .identity) (u .sound) (u .«ring_nonce») p (u .consent) (u .pairing) (u .battery) (u .identifier)
 
 abbrev pub withConsent : ℕ → TagUnit → TagUnit
 withConsent t u =
-    unitOf (u .settings) (u .clock) (u .nonce) (u .accounts) (u .owner) (u .identity) (u .sound) (u .«ring_nonce») (u .protection) t (u .pairing) (u .battery) (u .identifier)
+    unitOf (u .settings) (u .clock) (u .nonce) (u .accounts) (u .identity) (u .sound) (u .«ring_nonce») (u .protection) t (u .pairing) (u .battery) (u .identifier)
 
 abbrev pub withPairing : Bool → TagUnit → TagUnit
 withPairing on u =
-    unitOf (u .settings) (u .clock) (u .nonce) (u .accounts) (u .owner) (u .identity) (u .sound) (u .«ring_nonce») (u .protection) (u .consent) on (u .battery) (u .identifier)
+    unitOf (u .settings) (u .clock) (u .nonce) (u .accounts) (u .identity) (u .sound) (u .«ring_nonce») (u .protection) (u .consent) on (u .battery) (u .identifier)
 
 abbrev pub withBattery : ℕ → TagUnit → TagUnit
 withBattery level u =
-    unitOf (u .settings) (u .clock) (u .nonce) (u .accounts) (u .owner) (u .identity) (u .sound) (u .«ring_nonce») (u .protection) (u .consent) (u .pairing) level (u .identifier)
+    unitOf (u .settings) (u .clock) (u .nonce) (u .accounts) (u .identity) (u .sound) (u .«ring_nonce») (u .protection) (u .consent) (u .pairing) level (u .identifier)
 
 abbrev pub withIdentifier : Identifier → TagUnit → TagUnit
 withIdentifier i u =
-    unitOf (u .settings) (u .clock) (u .nonce) (u .accounts) (u .owner) (u .identity) (u .sound) (u .«ring_nonce») (u .protection) (u .consent) (u .pairing) (u .battery) i
+    unitOf (u .settings) (u .clock) (u .nonce) (u .accounts) (u .identity) (u .sound) (u .«ring_nonce») (u .protection) (u .consent) (u .pairing) (u .battery) i
+
+-- the accounts with another owner
+abbrev pub withOwner : Owner → Accounts → Accounts
+withOwner o a = record { count = a .count; owner = o; keys = a .keys }
+
+-- and with one key more, behind those held
+abbrev pub withNewKey : List ℕ → Accounts → Accounts
+withNewKey key a = record { count = a .count + 1; owner = a .owner; keys = pasted (a .keys) (a .count * accountKeySize) key }
 
 -- a sound, with the nonce of the accepted ring beside it
 abbrev pub withSound : Sound → List ℕ → TagUnit → TagUnit
 withSound v m u =
-    unitOf (u .settings) (u .clock) (u .nonce) (u .accounts) (u .owner) (u .identity) v m (u .protection) (u .consent) (u .pairing) (u .battery) (u .identifier)
+    unitOf (u .settings) (u .clock) (u .nonce) (u .accounts) (u .identity) v m (u .protection) (u .consent) (u .pairing) (u .battery) (u .identifier)
 
 -- Every way to silence goes through here: no sound, and no nonce beside it
 abbrev pub silenced : TagUnit → TagUnit
@@ -123,3 +127,8 @@ silenced u = withSound Sound.Silent noRingNonce u
 -- "Spent" is the paper's word for a nonce that can authenticate no further write: its bytes stay, and it is not live
 abbrev pub spent : TagUnit → TagUnit
 spent u = withNonce (record { held = u .nonce .held; live = false; bytes = u .nonce .bytes }) u
+
+-- The record of no unit, fixed and not well formed, by its battery: what a refused new unit gives, so that a host which ignores the refusal
+-- is answered with 2 from then on
+unfoldable pub noUnit : TagUnit
+noUnit = withBattery 255 (fresh (record { power = pos 0; components = 0; selectable = 0 }))

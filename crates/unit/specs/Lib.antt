@@ -1,4 +1,4 @@
-pub mod Numbers
+pub mod Ringable
 pub mod Refusals
 pub mod Change
 pub mod WellFormed

@@ -1,12 +1,12 @@
 -- What a call does to a unit, as a whole: the unit after it, its result, and for time the tenth at which a ring ended. And what
--- the promise of a call says of them. Assumes nothing.
+-- the promise of a call says of them.
 use Prim.Native.Nat.{ℕ}
 use mathlib.Core.Path.{_≡_}
 use mathlib.Core.Bool.{cond}
 use mathlib.Core.List.{List}
 use lib.Dec.{ltb}
 use Rattle.laws.specs.Answer.{Result, gives, refuses, lentAfter}
-use Rattle.unit.specs.Numbers.{answerRoom}
+use Rattle.sizes.specs.Sizes.{answerRoom}
 use Rattle.unit.specs.Refusals.{endOf, ending}
 use Rattle.unit.specs.WellFormed.{wellFormed}
 use Rattle.unit.specs.declared.TagUnit.{TagUnit}

@@ -1,4 +1,4 @@
--- "The refusal list": the number of each refusal, and how the end of a call is read. Assumes nothing.
+-- "The refusal list": the number of each refusal, and how the end of a call is read.
 use Prim.Native.Nat.{ℕ}
 use lib.ListN.{length}
 use Rattle.laws.specs.Answer.{Result, gives, refuses}

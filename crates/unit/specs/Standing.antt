@@ -1,10 +1,10 @@
 -- The identifier that stands for the current window, with its r, if there is one: the one place that says whether the tag has an
--- identifier to show. Assumes nothing.
+-- identifier to show.
 use Prim.Native.Nat.{ℕ}
 use mathlib.Core.Bool.{Bool, cond, _&&_}
 use mathlib.Core.List.{List, []}
 use lib.Dec.{eqb}
-use Rattle.unit.specs.Numbers.{window}
+use Rattle.sizes.specs.Sizes.{window}
 use Rattle.unit.specs.declared.TagUnit.{TagUnit}
 use Rattle.unit.specs.declared.Identifier.{Identifier}
 

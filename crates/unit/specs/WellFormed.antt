@@ -1,17 +1,18 @@
--- "What a unit holds": exactly the lines that make a record well formed. Assumes nothing.
-use Prim.Native.Nat.{ℕ, _%_}
+-- "What a unit holds": exactly the lines that make a record well formed.
+use Prim.Native.Nat.{ℕ, _*_, _%_}
 use mathlib.Core.Bool.{Bool, true, false, not, _&&_, _||_}
-use mathlib.Core.List.{List, [], _∷_, map}
+use mathlib.Core.List.{List, []}
+use mathlib.Core.Option.{Option, some, none}
 use lib.Dec.{leb, ltb, eqb}
-use lib.ListN.{take, drop}
-use lib.Bits.{bitAnd}
+use lib.ListN.{length, getD, drop}
 use lib.IntN.{ℤ, pos, negsuc}
-use Rattle.laws.specs.Bytes.{sameBytes, allZero}
-use Rattle.unit.specs.Numbers.{mostKeys, mostComponents, highestVolume, highestBattery, longestRing, fullConsent, windowLength, ringable}
+use Rattle.laws.specs.Bytes.{allZero}
+use Rattle.sizes.specs.Sizes.{accountKeySize, mostKeys, keysRoom, mostComponents, highestVolume, highestBattery, longestRing, fullConsent, windowLength}
+use Rattle.tables.specs.Rows.{rows, distinct}
+use Rattle.unit.specs.Ringable.{inside}
 use Rattle.unit.specs.declared.TagUnit.{TagUnit}
 use Rattle.unit.specs.declared.Settings.{Settings}
 use Rattle.unit.specs.declared.Nonce.{Nonce}
-use Rattle.unit.specs.declared.AccountKey.{AccountKey}
 use Rattle.unit.specs.declared.Accounts.{Accounts}
 use Rattle.unit.specs.declared.Owner.{Owner}
 use Rattle.unit.specs.declared.Identity.{Identity}
@@ -27,37 +28,35 @@ powerLegal (negsuc n) = leb n 99
 unfoldable pub settingsLegal : Settings → Bool
 settingsLegal s = powerLegal (s .power) && (leb (s .components) mostComponents && leb (s .selectable) 1)
 
--- Up to 5 account keys, no two equal; room for absent ones zero
-abbrev pub keyBytes : List AccountKey → List (List ℕ)
-keyBytes keys = map (λ k. k .bytes) keys
-
-unfoldable pub among : List ℕ → List (List ℕ) → Bool
-among k [] = false
-among k (x ∷ xs) = sameBytes k x || among k xs
-
-unfoldable pub distinct : List (List ℕ) → Bool
-distinct [] = true
-distinct (k ∷ ks) = not (among k ks) && distinct ks
-
-unfoldable pub zeros : List (List ℕ) → Bool
-zeros [] = true
-zeros (k ∷ ks) = allZero k && zeros ks
-
--- the keys held, in order of arrival
+-- Up to 5 account keys of 16 bytes: the rows held, in order of arrival
 unfoldable pub heldKeys : Accounts → List (List ℕ)
-heldKeys a = take (a .count) (keyBytes (a .keys))
+heldKeys a = rows accountKeySize (a .count) (a .keys)
 
+-- no two equal; room for absent ones zero. (Every record of the code has the room; a list that stands for one has as many bytes.)
 unfoldable pub accountsLegal : Accounts → Bool
-accountsLegal a = leb (a .count) mostKeys && (distinct (heldKeys a) && zeros (drop (a .count) (keyBytes (a .keys))))
+accountsLegal a =
+    eqb (length (a .keys)) keysRoom
+    && (leb (a .count) mostKeys && (distinct (heldKeys a) && allZero (drop (a .count * accountKeySize) (a .keys))))
 
 -- perhaps an owner among them
-unfoldable pub ownerLegal : Owner → Accounts → Bool
-ownerLegal Owner.Nobody a = true
-ownerLegal (Owner.Place p) a = ltb p (a .count)
+abbrev pub placeLegal : Owner → ℕ → Bool
+placeLegal Owner.Nobody count = true
+placeLegal (Owner.Place p) count = ltb p count
+
+unfoldable pub ownerLegal : Accounts → Bool
+ownerLegal a = placeLegal (a .owner) (a .count)
 
 abbrev pub owned : Owner → Bool
 owned Owner.Nobody = false
 owned (Owner.Place p) = true
+
+-- the owner's key, if there is an owner: what the rules speak of
+abbrev pub rowOf : Owner → List (List ℕ) → Option (List ℕ)
+rowOf Owner.Nobody keys = none
+rowOf (Owner.Place p) keys = some (getD keys p [])
+
+unfoldable pub ownerKey : Accounts → Option (List ℕ)
+ownerKey a = rowOf (a .owner) (heldKeys a)
 
 -- perhaps a 32-byte identity key (then there is an owner)
 unfoldable pub identityLegal : Identity → Owner → Bool
@@ -66,10 +65,6 @@ identityLegal k o = (k .held && owned o) || (not (k .held) && allZero (k .bytes)
 -- The last issued nonce, if any, and whether it is live; live without a nonce is not well formed
 unfoldable pub nonceLegal : Nonce → Bool
 nonceLegal n = n .held || (not (n .live) && allZero (n .bytes))
-
--- every bit of the mask is one of the ringable mask's
-abbrev pub inside : ℕ → ℕ → Bool
-inside mask components = eqb (bitAnd mask (ringable components)) mask
 
 -- Silent, or ringing with a mask, a volume, tenths left and the nonce of the accepted ring
 unfoldable pub soundLegal : Sound → List ℕ → Settings → Bool → Bool
@@ -99,8 +94,8 @@ wellFormed u =
     settingsLegal (u .settings)
     && (leb (u .clock .tenth) 9
     && (accountsLegal (u .accounts)
-    && (ownerLegal (u .owner) (u .accounts)
-    && (identityLegal (u .identity) (u .owner)
+    && (ownerLegal (u .accounts)
+    && (identityLegal (u .identity) (u .accounts .owner)
     && (nonceLegal (u .nonce)
     && (soundLegal (u .sound) (u .«ring_nonce») (u .settings) (u .identity .held)
     && (protectionLegal (u .protection) (u .identity .held)

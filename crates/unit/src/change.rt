@@ -1,7 +1,6 @@
 // A unit with one thing changed. A field that is an enum is not stored to: the record is made anew.
 ghost use mathlib.Core.Path.{_≡_};
-ghost use Rattle.unit.specs.Change.{fresh as freshUnit, withOwner, withProtection, withSound, silenced as silencedUnit, spent as spentUnit, noIdentifier};
-use crate::AccountKey;
+ghost use Rattle.unit.specs.Change.{fresh as freshUnit, noUnit, noIdentifier, withOwner, withProtection, withSound, silenced as silencedUnit, spent as spentUnit};
 use crate::Accounts;
 use crate::Clock;
 use crate::Identifier;
@@ -12,12 +11,18 @@ use crate::Protection;
 use crate::Settings;
 use crate::Sound;
 use crate::TagUnit;
+use sizes::IDENTIFIER_SIZE;
+use sizes::IDENTITY_KEY_SIZE;
+use sizes::KEYS_ROOM;
+use sizes::NONCE_SIZE;
+
+// No battery level: what makes the record of no unit one that is not well formed.
+const NO_LEVEL: u8 = 255;
 
 // A unit fresh from the maker, with its settings.
 pub fn fresh(s: Settings) -> TagUnit
     ensures { λ r. ⌜ r ≡ freshUnit s ⌝ }
 {
-    let empty = AccountKey { bytes: [0; 16] };
     TagUnit {
         settings: s,
         clock: Clock {
@@ -27,19 +32,19 @@ pub fn fresh(s: Settings) -> TagUnit
         nonce: Nonce {
             held: false,
             live: false,
-            bytes: [0; 8],
+            bytes: [0; NONCE_SIZE],
         },
         accounts: Accounts {
             count: 0,
-            keys: [empty; 5],
+            owner: Owner::Nobody,
+            keys: [0; KEYS_ROOM],
         },
-        owner: Owner::Nobody,
         identity: Identity {
             held: false,
-            bytes: [0; 32],
+            bytes: [0; IDENTITY_KEY_SIZE],
         },
         sound: Sound::Silent,
-        ring_nonce: [0; 8],
+        ring_nonce: [0; NONCE_SIZE],
         protection: Protection::Off,
         consent: 0,
         pairing: false,
@@ -48,27 +53,52 @@ pub fn fresh(s: Settings) -> TagUnit
     }
 }
 
+// The record of no unit, which is not well formed.
+pub fn no_unit() -> TagUnit
+    ensures { λ r. ⌜ r ≡ noUnit ⌝ }
+{
+    let s = Settings {
+        power: 0,
+        components: 0,
+        selectable: 0,
+    };
+    let mut none = fresh(s);
+    none.battery = NO_LEVEL;
+    none
+}
+
 // No identifier: zeros in its room.
 pub fn no_identifier() -> Identifier
     ensures { λ r. ⌜ r ≡ noIdentifier ⌝ }
 {
     Identifier {
         held: false,
-        r: [0; 20],
-        id: [0; 20],
+        r: [0; IDENTIFIER_SIZE],
+        id: [0; IDENTIFIER_SIZE],
         window: 0,
+    }
+}
+
+// The accounts with an owner.
+pub fn with_owner(a: Accounts, owner: Owner) -> Accounts
+    ensures { λ r. ⌜ r ≡ withOwner owner a ⌝ }
+{
+    let keys = a.keys;
+    Accounts {
+        count: a.count,
+        owner,
+        keys,
     }
 }
 
 // The unit with the parts that cannot be stored to made anew.
 fn rebuilt(
     u: TagUnit,
-    owner: Owner,
     sound: Sound,
-    ring_nonce: [u8; 8],
+    ring_nonce: [u8; NONCE_SIZE],
     protection: Protection,
 ) -> TagUnit
-    ensures { λ r. ⌜ r ≡ withOwner owner (withSound sound «ring_nonce» (withProtection protection u)) ⌝ }
+    ensures { λ r. ⌜ r ≡ withSound sound «ring_nonce» (withProtection protection u) ⌝ }
 {
     let settings = u.settings;
     let clock = u.clock;
@@ -81,7 +111,6 @@ fn rebuilt(
         clock,
         nonce,
         accounts,
-        owner,
         identity,
         sound,
         ring_nonce,
@@ -94,39 +123,27 @@ fn rebuilt(
 }
 
 // The unit with a sound, and the nonce of the accepted ring beside it.
-pub fn with_sound(u: TagUnit, sound: Sound, ring_nonce: [u8; 8]) -> TagUnit
+pub fn with_sound(u: TagUnit, sound: Sound, ring_nonce: [u8; NONCE_SIZE]) -> TagUnit
     ensures { λ r. ⌜ r ≡ withSound sound «ring_nonce» u ⌝ }
 {
-    let owner = u.owner;
     let protection = u.protection;
-    rebuilt(u, owner, sound, ring_nonce, protection)
+    rebuilt(u, sound, ring_nonce, protection)
 }
 
 // The unit silent: no sound, and zeros where the ring's nonce was.
 pub fn silenced(u: TagUnit) -> TagUnit
     ensures { λ r. ⌜ r ≡ silencedUnit u ⌝ }
 {
-    with_sound(u, Sound::Silent, [0; 8])
-}
-
-// The unit with an owner.
-pub fn with_owner(u: TagUnit, owner: Owner) -> TagUnit
-    ensures { λ r. ⌜ r ≡ withOwner owner u ⌝ }
-{
-    let sound = u.sound;
-    let ring_nonce = u.ring_nonce;
-    let protection = u.protection;
-    rebuilt(u, owner, sound, ring_nonce, protection)
+    with_sound(u, Sound::Silent, [0; NONCE_SIZE])
 }
 
 // The unit with protection on or off.
 pub fn with_protection(u: TagUnit, protection: Protection) -> TagUnit
     ensures { λ r. ⌜ r ≡ withProtection protection u ⌝ }
 {
-    let owner = u.owner;
     let sound = u.sound;
     let ring_nonce = u.ring_nonce;
-    rebuilt(u, owner, sound, ring_nonce, protection)
+    rebuilt(u, sound, ring_nonce, protection)
 }
 
 // The unit with its nonce spent: its bytes stay, and it authenticates no further write.

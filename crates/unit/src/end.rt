@@ -1,6 +1,7 @@
 // The end of a call, beside the unit after it.
 ghost use mathlib.Core.Path.{_≡_};
 ghost use Rattle.unit.specs.declared.Reply.{Reply};
+ghost use Rattle.unit.specs.Refusals.{number as numberOf};
 use crate::Refusal;
 use crate::Reply;
 use crate::Step;
@@ -23,5 +24,22 @@ pub fn accept(u: TagUnit, count: usize) -> Step
     Step {
         unit: u,
         reply: Reply::Done(count),
+    }
+}
+
+// The number of a refusal in the paper's list.
+pub fn number(refusal: Refusal) -> u8
+    ensures { λ r. ⌜ r ≡ numberOf refusal ⌝ }
+{
+    match refusal {
+        Refusal::NotAuthenticated => 0x80,
+        Refusal::InvalidValue => 0x81,
+        Refusal::NoConsent => 0x82,
+        Refusal::OutOfRange => 1,
+        Refusal::NotWellFormed => 2,
+        Refusal::WrongNonce => 3,
+        Refusal::WrongAccountKey => 4,
+        Refusal::NoFrame => 5,
+        Refusal::NoRoom => 6,
     }
 }

@@ -1,11 +1,16 @@
 // What a tag unit holds: the unit record of the paper's "What a unit holds", by value. Any values at all may stand in a record;
 // `well_formed` judges them.
 
-pub mod bytes;
+use sizes::IDENTIFIER_SIZE;
+use sizes::IDENTITY_KEY_SIZE;
+use sizes::KEYS_ROOM;
+use sizes::NONCE_SIZE;
+
 pub mod change;
 pub mod end;
-pub mod legal;
+pub mod mask;
 pub mod standing;
+pub mod well_formed;
 
 // Calibrated power in dBm at 0 m, the number of components that can ring, and whether the volume is selectable (0 or 1).
 pub struct Settings {
@@ -24,11 +29,7 @@ pub struct Clock {
 pub struct Nonce {
     pub held: bool,
     pub live: bool,
-    pub bytes: [u8; 8],
-}
-
-pub struct AccountKey {
-    pub bytes: [u8; 16],
+    pub bytes: [u8; NONCE_SIZE],
 }
 
 // The owner's place among the account keys.
@@ -37,16 +38,17 @@ pub enum Owner {
     Place(usize),
 }
 
-// The account keys in order of arrival, the first `count` of the five places.
+// The account keys in order of arrival, a table of which the first `count` rows are held, and the owner among them.
 pub struct Accounts {
     pub count: usize,
-    pub keys: [AccountKey; 5],
+    pub owner: Owner,
+    pub keys: [u8; KEYS_ROOM],
 }
 
 // The identity key (ephemeral identity key), if one is held.
 pub struct Identity {
     pub held: bool,
-    pub bytes: [u8; 32],
+    pub bytes: [u8; IDENTITY_KEY_SIZE],
 }
 
 // Silent, or ringing the components of a mask at a volume, with the tenths left.
@@ -64,8 +66,8 @@ pub enum Protection {
 // The ephemeral identifier that the host lends for a window of 1,024 seconds, with the r it came from.
 pub struct Identifier {
     pub held: bool,
-    pub r: [u8; 20],
-    pub id: [u8; 20],
+    pub r: [u8; IDENTIFIER_SIZE],
+    pub id: [u8; IDENTIFIER_SIZE],
     pub window: u32,
 }
 
@@ -74,11 +76,10 @@ pub struct TagUnit {
     pub clock: Clock,
     pub nonce: Nonce,
     pub accounts: Accounts,
-    pub owner: Owner,
     pub identity: Identity,
     pub sound: Sound,
     // The nonce of the accepted ring, zero while silent.
-    pub ring_nonce: [u8; 8],
+    pub ring_nonce: [u8; NONCE_SIZE],
     pub protection: Protection,
     // Tenths of consent left after a press of the button.
     pub consent: u16,

@@ -1,5 +1,4 @@
 -- What callers use of keys, proofs, tags and answers: how long they are; and what lent bytes are after an answer that fits.
--- Assumes nothing.
 use mathlib.Core.Path.{_≡_, refl, ap, _∙_}
 use mathlib.Core.List.{List, [], _∷_, _++_}
 use Prim.Native.Nat.{ℕ, suc, _+_, _≤_}
@@ -11,29 +10,30 @@ use Rattle.laws.specs.Bytes.{bigEndian}
 use Rattle.laws.proofs.BigEndian.{length-bigEndian}
 use Rattle.primitives.specs.Standards.{SHA256, HMAC}
 use Rattle.primitives.proofs.Laws.{length-SHA256, length-HMAC}
-use Rattle.wire.specs.Signing.{version, tagBytes, firstBytes, derivedKey, ringKey, keyProof, requestTag, answerTag, signed, ringId, ringNotice}
+use Rattle.sizes.specs.Sizes.{tagSize}
+use Rattle.wire.specs.Signing.{version, firstBytes, derivedKey, ringKey, keyProof, requestTag, answerTag, signed, ringId, ringNotice}
 
-length-firstBytes : (digest : List ℕ) → length digest ≡ 32 → length (firstBytes digest) ≡ tagBytes
-length-firstBytes digest e = length-take-le tagBytes digest (omega arith)
+length-firstBytes : (digest : List ℕ) → length digest ≡ 32 → length (firstBytes digest) ≡ tagSize
+length-firstBytes digest e = length-take-le tagSize digest (omega arith)
 
-pub length-derivedKey : (n : ℕ) (identity : List ℕ) → length (derivedKey n identity) ≡ tagBytes
+pub length-derivedKey : (n : ℕ) (identity : List ℕ) → length (derivedKey n identity) ≡ tagSize
 unfolding derivedKey
 length-derivedKey n identity = length-firstBytes (SHA256 (identity ++ (n ∷ []))) (length-SHA256 (identity ++ (n ∷ [])))
 
-pub length-keyProof : (identity nonce : List ℕ) → length (keyProof identity nonce) ≡ tagBytes
+pub length-keyProof : (identity nonce : List ℕ) → length (keyProof identity nonce) ≡ tagSize
 unfolding keyProof
 length-keyProof identity nonce = length-firstBytes (SHA256 (identity ++ nonce)) (length-SHA256 (identity ++ nonce))
 
-pub length-requestTag : (key nonce : List ℕ) (id size : ℕ) (additional : List ℕ) → length (requestTag key nonce id size additional) ≡ tagBytes
+pub length-requestTag : (key nonce : List ℕ) (id size : ℕ) (additional : List ℕ) → length (requestTag key nonce id size additional) ≡ tagSize
 unfolding requestTag
 length-requestTag key nonce id size additional =
     let m : List ℕ = version ∷ nonce ++ (id ∷ size ∷ additional) in length-firstBytes (HMAC key m) (length-HMAC key m)
 
 module _ (key nonce : List ℕ) (id : ℕ) (payload : List ℕ) where
-  pub length-answerTag : length (answerTag key nonce id payload) ≡ tagBytes
+  pub length-answerTag : length (answerTag key nonce id payload) ≡ tagSize
   unfolding answerTag
   length-answerTag =
-      let m : List ℕ = version ∷ nonce ++ (id ∷ (tagBytes + length payload) ∷ payload ++ (0x01 ∷ [])) in
+      let m : List ℕ = version ∷ nonce ++ (id ∷ (tagSize + length payload) ∷ payload ++ (0x01 ∷ [])) in
       length-firstBytes (HMAC key m) (length-HMAC key m)
 
   pub length-signed : length (signed key nonce id payload) ≡ 10 + length payload

@@ -1,4 +1,4 @@
--- Legal lengths by ID: what one row of the table says of a length. Assumes nothing.
+-- Legal lengths by ID: what one row of the table says of a length.
 use mathlib.Core.Path.{_≡_, refl}
 use mathlib.Core.Bool.{Bool, true, false, _||_}
 use mathlib.Core.List.{[], _∷_}

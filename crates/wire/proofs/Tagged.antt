@@ -1,5 +1,4 @@
 -- What a tag covers, joined from the parts that the code hands to HMAC: version, nonce, ID and length in one, then the rest.
--- Assumes nothing.
 use mathlib.Core.Path.{_≡_, ap, _∙_}
 use mathlib.Core.List.{List, [], _∷_, _++_, append-assoc}
 use Prim.Native.Nat.{ℕ}

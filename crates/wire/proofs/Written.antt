@@ -1,12 +1,10 @@
 -- An answer written in three parts, one after the other: the lent bytes then hold the three and the rest as it was.
--- Assumes nothing.
 use mathlib.Core.Path.{_≡_, refl, sym, ap, _∙_}
-use mathlib.Core.List.{List, [], _∷_, _++_}
-use Prim.Native.Nat.{ℕ, _+_, _/_, _%_, _<_}
+use mathlib.Core.List.{List, [], _++_}
+use Prim.Native.Nat.{ℕ, _+_}
 use native.Mathlib.Omega.{arith}
 use lib.ListN.{length, take, drop, length-append}
 use Rattle.laws.specs.Answer.{gives, lentAfter}
-use Rattle.laws.specs.Bytes.{bigEndian}
 use Rattle.laws.proofs.Copied.{copied-next}
 
 module _ (before one two three p q r : List ℕ) (np : length p ≡ 2) (nq : length q ≡ 8) where
@@ -21,8 +19,3 @@ module _ (before one two three p q r : List ℕ) (np : length p ≡ 2) (nq : len
       let n : length (p ++ q) ≡ 10 = omega (arith, length-append p q) in
       let all : length ((p ++ q) ++ r) ≡ 10 + length r = omega (arith, length-append (p ++ q) r) in
       copied-next before (p ++ q) r two three 10 n second g ∙ ap (λ (k : ℕ). ((p ++ q) ++ r) ++ drop k before) (sym all)
-
--- two bytes of a number, the high one first
-pub two-bytes : (n : ℕ) → n < 65536 → n / 256 ∷ n % 256 ∷ [] ≡ bigEndian 2 n
-unfolding bigEndian
-two-bytes n h = let e : n / 256 % 256 ≡ n / 256 = omega arith in ap (λ (b : ℕ). b ∷ n % 256 ∷ []) (sym e)

@@ -1,4 +1,3 @@
 pub mod Signing
 pub mod Shape
 pub mod KeyBlocks
-pub mod Wrote

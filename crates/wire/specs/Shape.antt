@@ -1,11 +1,11 @@
--- "A write is ID, length, 8 tag bytes, additional data": its parts, and which shapes are legal. Assumes nothing.
+-- "A write is ID, length, 8 tag bytes, additional data": its parts, and which shapes are legal.
 use Prim.Native.Nat.{ℕ, _+_}
 use mathlib.Core.Bool.{Bool, false, _&&_, _||_}
 use mathlib.Core.List.{List, [], _∷_}
 use lib.Dec.{leb, eqb}
 use lib.ListN.{length, getD, take, drop}
 use Rattle.wire.specs.declared.Head.{Head}
-use Rattle.wire.specs.Signing.{tagBytes}
+use Rattle.sizes.specs.Sizes.{tagSize}
 
 -- the parts of a write (its length byte is `size` here); "the additional data is the part of the write from byte 10 onward"
 pub record Request : Type 0 where
@@ -19,7 +19,7 @@ abbrev pub request : Head → List ℕ → Request
 request h additional = record { id = h .id; size = h .size; tag = h .tag; additional = additional }
 
 unfoldable pub parsed : List ℕ → Request
-parsed w = record { id = getD w 0 0; size = getD w 1 0; tag = take tagBytes (drop 2 w); additional = drop (2 + tagBytes) w }
+parsed w = record { id = getD w 0 0; size = getD w 1 0; tag = take tagSize (drop 2 w); additional = drop (2 + tagSize) w }
 
 -- the length of a 0x02 that proves the key held
 abbrev pub provenSize : ℕ

@@ -1,19 +1,18 @@
--- "Read and write": the keys made from the identity key, key proofs, and the tags of requests and answers. Assumes nothing.
+-- "Read and write": the keys made from the identity key, key proofs, and the tags of requests and answers.
 use Prim.Native.Nat.{ℕ, _+_}
 use mathlib.Core.List.{List, [], _∷_, _++_}
 use lib.ListN.{length, take}
 use Rattle.laws.specs.Bytes.{bigEndian}
+use Rattle.sizes.specs.Sizes.{tagSize}
 use Rattle.primitives.specs.Standards.{SHA256, HMAC}
 
--- the protocol's major version, 0x01; and of a digest the first 8 bytes that stand for it, as a tag, a key or a proof
+-- the protocol's major version, 0x01
 abbrev pub version : ℕ
 version = 0x01
 
-abbrev pub tagBytes : ℕ
-tagBytes = 8
-
+-- of a digest the first bytes stand for it, as a tag, a key or a proof
 abbrev pub firstBytes : List ℕ → List ℕ
-firstBytes digest = take tagBytes digest
+firstBytes digest = take tagSize digest
 
 -- "Recovery, ring and protection keys are the first 8 bytes of SHA256(identity key, then 0x01, 0x02, 0x03 respectively)"
 unfoldable pub derivedKey : ℕ → List ℕ → List ℕ
@@ -39,11 +38,11 @@ requestTag key nonce id size additional = firstBytes (HMAC key (version ∷ nonc
 -- "tag is the first 8 bytes of HMAC(key of the request, 0x01, nonce, ID, length, data, 0x01)"
 unfoldable pub answerTag : List ℕ → List ℕ → ℕ → List ℕ → List ℕ
 answerTag key nonce id «data» =
-    firstBytes (HMAC key (version ∷ nonce ++ (id ∷ (tagBytes + length «data») ∷ «data» ++ (0x01 ∷ []))))
+    firstBytes (HMAC key (version ∷ nonce ++ (id ∷ (tagSize + length «data») ∷ «data» ++ (0x01 ∷ []))))
 
 -- "Answers: ID, length (8 + data), tag, data"
 unfoldable pub signed : List ℕ → List ℕ → ℕ → List ℕ → List ℕ
-signed key nonce id «data» = id ∷ (tagBytes + length «data») ∷ answerTag key nonce id «data» ++ «data»
+signed key nonce id «data» = id ∷ (tagSize + length «data») ∷ answerTag key nonce id «data» ++ «data»
 
 -- the ID of a ring and of its notices
 abbrev pub ringId : ℕ
@@ -63,9 +62,11 @@ byButton = 3
 abbrev pub byRequest : ℕ
 byRequest = 4
 
+abbrev pub noticeData : ℕ → ℕ → ℕ → List ℕ
+noticeData status mask left = status ∷ mask ∷ bigEndian 2 left
+
 unfoldable pub ringNotice : List ℕ → List ℕ → ℕ → ℕ → ℕ → List ℕ
-ringNotice identity nonce status mask left =
-    signed (ringKey identity) nonce ringId (status ∷ mask ∷ bigEndian 2 left)
+ringNotice identity nonce status mask left = signed (ringKey identity) nonce ringId (noticeData status mask left)
 
 abbrev pub stopNotice : List ℕ → List ℕ → ℕ → List ℕ
 stopNotice identity nonce status = ringNotice identity nonce status 0 0

@@ -1,53 +1,62 @@
 // Writing an answer into the bytes that the caller lends.
+ghost use Prim.Native.Nat.{_≤_};
 ghost use mathlib.Core.Path.{_≡_};
-ghost use mathlib.Core.List.{_++_};
-ghost use Prim.Native.Nat.{_+_, _≤_};
-ghost use lib.ListN.{length, take, drop};
-ghost use Rattle.wire.specs.Signing.{signed, ringNotice};
-ghost use Rattle.wire.specs.Wrote.{Wrote};
+ghost use lib.ListN.{length};
+ghost use Rattle.sizes.specs.Sizes.{accountKeySize, mostData, answerRoom};
+ghost use Rattle.wire.specs.Signing.{signed, noticeData, ringNotice};
+ghost use Rattle.laws.specs.Answer.{Wrote};
 use crate::signing;
+use sizes::HEAD_SIZE;
+use sizes::IDENTITY_KEY_SIZE;
+use sizes::NONCE_SIZE;
+use sizes::TAG_SIZE;
 
-const RING_ID: u8 = 0x05;
+// The ID of a ring and of its notices, and the status of a notice.
+pub const RING_ID: u8 = 0x05;
 
-// Puts bytes into the lent ones from a place on; the others stay.
-pub fn put(answer: &mut [u8], at: usize, bytes: &[u8])
-    requires { ⌜ at + length (now bytes) ≤ length (now answer) ⌝ }
-    ensures { λ _. ⌜ now (answer .exit) ≡ take at (now (answer .entry)) ++ (now (bytes .entry) ++ drop (at + length (now (bytes .entry))) (now (answer .entry))) ⌝ }
-{
-    let mut i = 0;
-    while i < bytes.len() {
-        answer[at + i] = bytes[i];
-        i += 1;
-    }
-}
+pub const STARTED: u8 = 0;
+
+pub const TIMED_OUT: u8 = 2;
+
+pub const BY_BUTTON: u8 = 3;
+
+pub const BY_REQUEST: u8 = 4;
+
+pub const NOTICE_SIZE: usize = 4;
 
 // Writes the signed answer to a request: ID, length, tag, data. Gives the number of bytes written.
-pub fn sign(key: &[u8], nonce: [u8; 8], id: u8, data: &[u8], answer: &mut [u8]) -> usize
-    requires { ⌜ (length (now key) ≤ 16) × ((length (now «data») ≤ 32) × (42 ≤ length (now answer))) ⌝ }
+pub fn sign(key: &[u8], nonce: [u8; NONCE_SIZE], id: u8, data: &[u8], answer: &mut [u8]) -> usize
+    requires { ⌜ (length (now key) ≤ accountKeySize) × ((length (now «data») ≤ mostData) × (answerRoom ≤ length (now answer))) ⌝ }
     ensures { λ r. ⌜ Wrote (signed (now (key .entry)) nonce id (now («data» .entry))) r (now (answer .entry)) (now (answer .exit)) ⌝ }
 {
-    let size = 8 + data.len();
+    let size = TAG_SIZE + data.len();
     let tag = signing::answer_tag(key, nonce, id, data);
     let first = [id, size as u8];
-    put(answer, 0, &first);
-    put(answer, 2, &tag);
-    put(answer, 10, data);
+    octets::put(answer, 0, &first);
+    octets::put(answer, 2, &tag);
+    octets::put(answer, HEAD_SIZE, data);
     2 + size
 }
 
-// Writes a ring notice.
-pub fn notice(
-    identity: [u8; 32],
-    nonce: [u8; 8],
+// The data of a ring notice: status, mask and tenths left.
+pub fn notice_data(status: u8, mask: u8, left: u16) -> [u8; NOTICE_SIZE]
+    ensures { λ r. ⌜ r ≡ noticeData status mask left ⌝ }
+{
+    let tenths = octets::two(left);
+    [status, mask, tenths[0], tenths[1]]
+}
+
+// Writes a notice that a ring has stopped.
+pub fn stop_notice(
+    identity: [u8; IDENTITY_KEY_SIZE],
+    nonce: [u8; NONCE_SIZE],
     status: u8,
-    mask: u8,
-    left: u16,
     answer: &mut [u8],
 ) -> usize
-    requires { ⌜ 42 ≤ length (now answer) ⌝ }
-    ensures { λ r. ⌜ Wrote (ringNotice identity nonce status mask left) r (now (answer .entry)) (now (answer .exit)) ⌝ }
+    requires { ⌜ answerRoom ≤ length (now answer) ⌝ }
+    ensures { λ r. ⌜ Wrote (ringNotice identity nonce status 0 0) r (now (answer .entry)) (now (answer .exit)) ⌝ }
 {
-    let key = signing::derived_key(2, identity);
-    let data = [status, mask, (left / 256) as u8, (left % 256) as u8];
+    let key = signing::derived_key(signing::RING, identity);
+    let data = notice_data(status, 0, 0);
     sign(&key, nonce, RING_ID, &data, answer)
 }

@@ -3,44 +3,48 @@ ghost use mathlib.Core.Path.{_≡_};
 ghost use mathlib.Core.List.{_++_};
 ghost use Prim.Native.Nat.{_+_, _≤_};
 ghost use lib.ListN.{length, take, drop};
+ghost use Rattle.sizes.specs.Sizes.{blockSize, identityKeySize};
 ghost use Rattle.wire.specs.KeyBlocks.{decryptedKey, encryptedKey};
-use crate::answer::put;
+use sizes::ACCOUNT_KEY_SIZE;
+use sizes::BLOCK_SIZE;
+use sizes::IDENTITY_KEY_SIZE;
 
-// Sixteen bytes of a slice from a place on.
-fn block_at(s: &[u8], at: usize) -> [u8; 16]
-    requires { ⌜ at + 16 ≤ length (now s) ⌝ }
-    ensures { λ r. ⌜ r ≡ take 16 (drop at (now (s .entry))) ⌝ }
+// A block of a slice from a place on.
+fn block_at(s: &[u8], at: usize) -> [u8; BLOCK_SIZE]
+    requires { ⌜ at + blockSize ≤ length (now s) ⌝ }
+    ensures { λ r. ⌜ r ≡ take blockSize (drop at (now (s .entry))) ⌝ }
 {
-    let mut block = [0u8; 16];
-    put(&mut block, 0, &s[at..at + 16]);
-    block
+    octets::sixteen(&s[at..at + BLOCK_SIZE])
 }
 
 // Two blocks, one after the other.
-fn joined(a: [u8; 16], b: [u8; 16]) -> [u8; 32]
+fn joined(a: [u8; BLOCK_SIZE], b: [u8; BLOCK_SIZE]) -> [u8; IDENTITY_KEY_SIZE]
     ensures { λ r. ⌜ r ≡ a ++ b ⌝ }
 {
-    let mut both = [0u8; 32];
-    put(&mut both, 0, &a);
-    put(&mut both, 16, &b);
+    let mut both = [0u8; IDENTITY_KEY_SIZE];
+    octets::put(&mut both, 0, &a);
+    octets::put(&mut both, BLOCK_SIZE, &b);
     both
 }
 
 // The identity key that 0x02 carries, decrypted with the owner key.
-pub fn decrypted_key(key: [u8; 16], cipher: &[u8]) -> [u8; 32]
-    requires { ⌜ 32 ≤ length (now cipher) ⌝ }
+pub fn decrypted_key(key: [u8; ACCOUNT_KEY_SIZE], cipher: &[u8]) -> [u8; IDENTITY_KEY_SIZE]
+    requires { ⌜ identityKeySize ≤ length (now cipher) ⌝ }
     ensures { λ r. ⌜ r ≡ decryptedKey key (now (cipher .entry)) ⌝ }
 {
     let first = primitives::decrypt(key, block_at(cipher, 0));
-    let second = primitives::decrypt(key, block_at(cipher, 16));
+    let second = primitives::decrypt(key, block_at(cipher, BLOCK_SIZE));
     joined(first, second)
 }
 
 // The identity key, encrypted with the owner key.
-pub fn encrypted_key(key: [u8; 16], identity: [u8; 32]) -> [u8; 32]
+pub fn encrypted_key(
+    key: [u8; ACCOUNT_KEY_SIZE],
+    identity: [u8; IDENTITY_KEY_SIZE],
+) -> [u8; IDENTITY_KEY_SIZE]
     ensures { λ r. ⌜ r ≡ encryptedKey key identity ⌝ }
 {
     let first = primitives::encrypt(key, block_at(&identity, 0));
-    let second = primitives::encrypt(key, block_at(&identity, 16));
+    let second = primitives::encrypt(key, block_at(&identity, BLOCK_SIZE));
     joined(first, second)
 }

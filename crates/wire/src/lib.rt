@@ -1,5 +1,7 @@
 // What goes over the air: the parts of a write, keys made from the identity key, tags, key proofs and answers. Nothing here knows a unit.
 
+use sizes::TAG_SIZE;
+
 pub mod answer;
 pub mod blocks;
 pub mod shape;
@@ -9,5 +11,5 @@ pub mod signing;
 pub struct Head {
     pub id: u8,
     pub size: u8,
-    pub tag: [u8; 8],
+    pub tag: [u8; TAG_SIZE],
 }

@@ -1,8 +1,7 @@
--- `firmware::tag_account_key` meets its contract: what the tag and the end of the call promise. Assumes nothing.
+-- `tag_account_key` meets its contract: what the tag and the end of the call promise.
+use Rattle.tag.specs.Calls.{accountKey}
+use Rattle.firmware.proofs.Exporting.{settles-whole, settles-exports}
 use borrow.Author.Needs.{needs}
-use Rattle.tag.specs.Calls.{addKey}
-use Rattle.stored.specs.Layout.{decoded}
-use Rattle.firmware.proofs.Exporting.{back-whole, exported, key-whole, key-untimed}
 use Rattle.firmware.proofs.tag_account_key.Statement.{statement}
 use Rattle.firmware.proofs.tag_account_key.Tie as tie
 
@@ -14,18 +13,21 @@ account-key-requires c κs = search needs
 
 finish-requires : tie.Need-finish-requires
 finish-requires c κs =
-    let b = c .before .before .before .before .before .before .before .args .stored .now in
-    let known = rw (c .before .before .before .decode .ensures) at (c .before .before .account-key .ensures) in
-    back-whole (addKey (c .before .before .before .before .before .before .before .args .key .now) (decoded b)) b (c .before .before .account-key .result .reply) (key-whole b (c .before .before .before .before .before .before .before .args .key .now)) (known .endIs)
+    let account-key-at = c .before .before in
+    let decode-at = account-key-at .before in
+    let start = decode-at .before .before .before .before in
+    settles-whole (accountKey (start .args .key .now)) 0 (start .args .bytes .now) (decode-at .decode .ensures) (account-key-at .account-key .ensures)
 
 same-length : tie.Need-same-length
 same-length c = search needs
 
 returns : tie.Need-returns
 returns c =
-    let b = c .before .before .before .before .before .before .before .before .before .before .args .stored .now in
-    let known = rw (c .before .before .before .before .before .before .decode .ensures) at (c .before .before .before .before .before .account-key .ensures) in
-    exported known (key-untimed (c .before .before .before .before .before .before .before .before .before .before .args .key .now) (decoded b)) (c .before .before .finish .ensures)
+    let finish-at = c .before .before in
+    let account-key-at = finish-at .before .before .before in
+    let decode-at = account-key-at .before in
+    let start = decode-at .before .before .before .before in
+    settles-exports (accountKey (start .args .key .now)) 0 (start .args .bytes .now) (decode-at .decode .ensures) (account-key-at .account-key .ensures) (finish-at .finish .ensures)
 
 pub tag-account-key-spec : {M : Type 1} → statement M
 tag-account-key-spec =

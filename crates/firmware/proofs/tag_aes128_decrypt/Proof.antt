@@ -1,4 +1,4 @@
--- `firmware::tag_aes128_decrypt` meets its contract: what the tag and the end of the call promise. Assumes nothing.
+-- `firmware::tag_aes128_decrypt` meets its contract: what the tag and the end of the call promise.
 use mathlib.Core.Bool.{_&&_}
 use lib.ListN.{length}
 use lib.Dec.{eqb}

@@ -1,8 +1,7 @@
--- `firmware::tag_battery` meets its contract: what the tag and the end of the call promise. Assumes nothing.
+-- `tag_battery` meets its contract: what the tag and the end of the call promise.
+use Rattle.tag.specs.Calls.{battery}
+use Rattle.firmware.proofs.Exporting.{settles-whole, settles-exports}
 use borrow.Author.Needs.{needs}
-use Rattle.tag.specs.Calls.{setBattery}
-use Rattle.stored.specs.Layout.{decoded}
-use Rattle.firmware.proofs.Exporting.{back-whole, exported, battery-whole, battery-untimed}
 use Rattle.firmware.proofs.tag_battery.Statement.{statement}
 use Rattle.firmware.proofs.tag_battery.Tie as tie
 
@@ -14,18 +13,21 @@ battery-requires c κs = search needs
 
 finish-requires : tie.Need-finish-requires
 finish-requires c κs =
-    let b = c .before .before .before .before .before .before .args .stored .now in
-    let known = rw (c .before .before .before .decode .ensures) at (c .before .before .battery .ensures) in
-    back-whole (setBattery (c .before .before .before .before .before .before .args .level) (decoded b)) b (c .before .before .battery .result .reply) (battery-whole b (c .before .before .before .before .before .before .args .level)) (known .endIs)
+    let battery-at = c .before .before in
+    let decode-at = battery-at .before in
+    let start = decode-at .before .before .before in
+    settles-whole (battery (start .args .level)) 0 (start .args .bytes .now) (decode-at .decode .ensures) (battery-at .battery .ensures)
 
 same-length : tie.Need-same-length
 same-length c = search needs
 
 returns : tie.Need-returns
 returns c =
-    let b = c .before .before .before .before .before .before .before .before .before .args .stored .now in
-    let known = rw (c .before .before .before .before .before .before .decode .ensures) at (c .before .before .before .before .before .battery .ensures) in
-    exported known (battery-untimed (c .before .before .before .before .before .before .before .before .before .args .level) (decoded b)) (c .before .before .finish .ensures)
+    let finish-at = c .before .before in
+    let battery-at = finish-at .before .before .before in
+    let decode-at = battery-at .before in
+    let start = decode-at .before .before .before in
+    settles-exports (battery (start .args .level)) 0 (start .args .bytes .now) (decode-at .decode .ensures) (battery-at .battery .ensures) (finish-at .finish .ensures)
 
 pub tag-battery-spec : {M : Type 1} → statement M
 tag-battery-spec =

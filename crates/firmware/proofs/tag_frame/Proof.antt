@@ -1,9 +1,8 @@
--- `firmware::tag_frame` meets its contract: what the tag and the end of the call promise. Assumes nothing.
+-- `tag_frame` meets its contract: what the tag and the end of the call promise.
 use lib.ListN.{length}
-use borrow.Author.Needs.{needs}
 use Rattle.tag.specs.Calls.{frame}
-use Rattle.stored.specs.Layout.{decoded}
-use Rattle.firmware.proofs.Exporting.{back-whole, exported-answer, frame-whole, frame-untimed}
+use Rattle.firmware.proofs.Exporting.{answers-whole, answers-exports}
+use borrow.Author.Needs.{needs}
 use Rattle.firmware.proofs.tag_frame.Statement.{statement}
 use Rattle.firmware.proofs.tag_frame.Tie as tie
 
@@ -15,9 +14,10 @@ advertise-requires c κs = search needs
 
 finish-requires : tie.Need-finish-requires
 finish-requires c κs =
-    let b = c .before .before .before .before .before .before .before .before .before .before .args .stored .now in
-    let known = rw (c .before .before .before .before .before .before .decode .ensures) at (c .before .before .before .before .advertise .ensures) in
-    back-whole (frame (length (c .before .before .before .before .before .before .before .before .before .before .args .answer .now)) (decoded b)) b (c .before .before .before .before .advertise .result .reply) (frame-whole b (length (c .before .before .before .before .before .before .before .before .before .before .args .answer .now))) (known .endIs)
+    let advertise-at = c .before .before .before .before in
+    let decode-at = advertise-at .before .before in
+    let start = decode-at .before .before .before .before in
+    answers-whole frame (length (start .args .answer .now)) (start .args .bytes .now) (decode-at .decode .ensures) (advertise-at .advertise .ensures)
 
 same-length : tie.Need-same-length
 same-length c = search needs
@@ -27,9 +27,11 @@ same-length-2 c = search needs
 
 returns : tie.Need-returns
 returns c =
-    let b = c .before .before .before .before .before .before .before .before .before .before .before .before .before .args .stored .now in
-    let known = rw (c .before .before .before .before .before .before .before .before .before .decode .ensures) at (c .before .before .before .before .before .before .before .advertise .ensures) in
-    exported-answer known (frame-untimed (length (c .before .before .before .before .before .before .before .before .before .before .before .before .before .args .answer .now)) (decoded b)) (c .before .before .finish .ensures)
+    let finish-at = c .before .before in
+    let advertise-at = finish-at .before .before .before .before .before in
+    let decode-at = advertise-at .before .before in
+    let start = decode-at .before .before .before .before in
+    answers-exports frame (length (start .args .answer .now)) (start .args .bytes .now) (decode-at .decode .ensures) (advertise-at .advertise .ensures) (finish-at .finish .ensures)
 
 pub tag-frame-spec : {M : Type 1} → statement M
 tag-frame-spec =

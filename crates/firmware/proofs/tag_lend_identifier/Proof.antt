@@ -1,8 +1,7 @@
--- `firmware::tag_lend_identifier` meets its contract: what the tag and the end of the call promise. Assumes nothing.
+-- `tag_lend_identifier` meets its contract: what the tag and the end of the call promise.
+use Rattle.tag.specs.Calls.{identifier}
+use Rattle.firmware.proofs.Exporting.{settles-whole, settles-exports}
 use borrow.Author.Needs.{needs}
-use Rattle.tag.specs.Calls.{lendIdentifier}
-use Rattle.stored.specs.Layout.{decoded}
-use Rattle.firmware.proofs.Exporting.{back-whole, exported, identifier-whole, identifier-untimed}
 use Rattle.firmware.proofs.tag_lend_identifier.Statement.{statement}
 use Rattle.firmware.proofs.tag_lend_identifier.Tie as tie
 
@@ -14,18 +13,21 @@ lend-identifier-requires c κs = search needs
 
 finish-requires : tie.Need-finish-requires
 finish-requires c κs =
-    let b = c .before .before .before .before .before .before .before .before .args .stored .now in
-    let known = rw (c .before .before .before .decode .ensures) at (c .before .before .lend-identifier .ensures) in
-    back-whole (lendIdentifier (c .before .before .before .before .before .before .before .before .args .r .now) (c .before .before .before .before .before .before .before .before .args .id .now) (decoded b)) b (c .before .before .lend-identifier .result .reply) (identifier-whole b (c .before .before .before .before .before .before .before .before .args .r .now) (c .before .before .before .before .before .before .before .before .args .id .now)) (known .endIs)
+    let lend-identifier-at = c .before .before in
+    let decode-at = lend-identifier-at .before in
+    let start = decode-at .before .before .before .before .before in
+    settles-whole (identifier (start .args .r .now) (start .args .id .now)) 0 (start .args .bytes .now) (decode-at .decode .ensures) (lend-identifier-at .lend-identifier .ensures)
 
 same-length : tie.Need-same-length
 same-length c = search needs
 
 returns : tie.Need-returns
 returns c =
-    let b = c .before .before .before .before .before .before .before .before .before .before .before .args .stored .now in
-    let known = rw (c .before .before .before .before .before .before .decode .ensures) at (c .before .before .before .before .before .lend-identifier .ensures) in
-    exported known (identifier-untimed (c .before .before .before .before .before .before .before .before .before .before .before .args .r .now) (c .before .before .before .before .before .before .before .before .before .before .before .args .id .now) (decoded b)) (c .before .before .finish .ensures)
+    let finish-at = c .before .before in
+    let lend-identifier-at = finish-at .before .before .before in
+    let decode-at = lend-identifier-at .before in
+    let start = decode-at .before .before .before .before .before in
+    settles-exports (identifier (start .args .r .now) (start .args .id .now)) 0 (start .args .bytes .now) (decode-at .decode .ensures) (lend-identifier-at .lend-identifier .ensures) (finish-at .finish .ensures)
 
 pub tag-lend-identifier-spec : {M : Type 1} → statement M
 tag-lend-identifier-spec =

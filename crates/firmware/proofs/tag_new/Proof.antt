@@ -1,10 +1,10 @@
--- `firmware::tag_new` meets its contract: by the length; then what the tag and the end of the call promise. Assumes nothing.
+-- `tag_new` meets its contract: by the length; then what the tag and the end of the call promise.
 use mathlib.Core.Bool.{false≢true}
 use mir.Facts.{toZ-ofZ}
 use borrow.Author.Tests.{eq-eqb, ne-eqb}
-use borrow.Author.Needs.{needs}
 use Rattle.firmware.specs.Exported.{code, recordAfter}
 use Rattle.firmware.proofs.Exporting.{exported, new-untimed}
+use borrow.Author.Needs.{needs}
 use Rattle.firmware.proofs.tag_new.Statement.{statement}
 use Rattle.firmware.proofs.tag_new.Tie as tie
 
@@ -12,8 +12,7 @@ no-unit-requires : tie.Need-no-unit-requires
 no-unit-requires c κs = search needs
 
 finish-requires : tie.Need-finish-requires
-finish-requires c κs =
-    λ w. absurd (false≢true w)
+finish-requires c κs = λ w. absurd (false≢true w)
 
 same-length : tie.Need-same-length
 same-length c = search needs
@@ -21,23 +20,31 @@ same-length c = search needs
 returns : tie.Need-returns
 unfolding code recordAfter
 returns c =
-    rw (ne-eqb _ _ (c .before .before .before .before .before .if1 .taken)) (record { codeIs = c .before .before .finish .ensures .codeIs; recordIs = c .before .before .finish .ensures .recordIs })
+    let finish-at = c .before .before in
+    let if1-at = finish-at .before .before .before in
+    rw (ne-eqb _ _ (if1-at .if1 .taken))
+    (record { codeIs = finish-at .finish .ensures .codeIs; recordIs = finish-at .finish .ensures .recordIs })
 
 new-unit-requires : tie.Need-new-unit-requires
 new-unit-requires c κs = search needs
 
 finish-requires-2 : tie.Need-finish-requires-2
 finish-requires-2 c κs =
-    λ w. c .before .before .before .if1 .left
+    let if1-at = c .before .before .before in
+    λ w. if1-at .if1 .left
 
 same-length-2 : tie.Need-same-length-2
 same-length-2 c = search needs
 
 returns-2 : tie.Need-returns-2
 returns-2 c =
-    let known = rw (toZ-ofZ (c .before .before .before .before .before .before .before .before .fits .power)) at (c .before .before .before .before .before .new-unit .ensures) in
-    rw (eq-eqb _ _ (c .before .before .before .before .before .before .if1 .left))
-    (exported known (new-untimed (c .before .before .before .before .before .before .before .before .args .power) (c .before .before .before .before .before .before .before .before .args .components) (c .before .before .before .before .before .before .before .before .args .selectable)) (c .before .before .finish2 .ensures))
+    let finish2-at = c .before .before in
+    let new-unit-at = finish2-at .before .before .before in
+    let if1-at = new-unit-at .before in
+    let start = if1-at .before .before in
+    let known = rw (toZ-ofZ (start .fits .power)) at (new-unit-at .new-unit .ensures) in
+    rw (eq-eqb _ _ (if1-at .if1 .left))
+    (exported known (new-untimed (start .args .power) (start .args .components) (start .args .selectable)) (finish2-at .finish2 .ensures))
 
 pub tag-new-spec : {M : Type 1} → statement M
 tag-new-spec =

@@ -1,9 +1,8 @@
--- `firmware::tag_read` meets its contract: what the tag and the end of the call promise. Assumes nothing.
+-- `tag_read` meets its contract: what the tag and the end of the call promise.
 use lib.ListN.{length}
-use borrow.Author.Needs.{needs}
 use Rattle.tag.specs.Calls.{read}
-use Rattle.stored.specs.Layout.{decoded}
-use Rattle.firmware.proofs.Exporting.{back-whole, exported-answer, read-whole, read-untimed}
+use Rattle.firmware.proofs.Exporting.{answers-whole, answers-exports}
+use borrow.Author.Needs.{needs}
 use Rattle.firmware.proofs.tag_read.Statement.{statement}
 use Rattle.firmware.proofs.tag_read.Tie as tie
 
@@ -15,9 +14,10 @@ read-requires c κs = search needs
 
 finish-requires : tie.Need-finish-requires
 finish-requires c κs =
-    let b = c .before .before .before .before .before .before .before .before .before .before .before .args .stored .now in
-    let known = rw (c .before .before .before .before .before .before .decode .ensures) at (c .before .before .before .before .read .ensures) in
-    back-whole (read (c .before .before .before .before .before .before .before .before .before .before .before .args .nonce .now) (length (c .before .before .before .before .before .before .before .before .before .before .before .args .answer .now)) (decoded b)) b (c .before .before .before .before .read .result .reply) (read-whole b (c .before .before .before .before .before .before .before .before .before .before .before .args .nonce .now) (length (c .before .before .before .before .before .before .before .before .before .before .before .args .answer .now))) (known .endIs)
+    let read-at = c .before .before .before .before in
+    let decode-at = read-at .before .before in
+    let start = decode-at .before .before .before .before .before in
+    answers-whole (read (start .args .nonce .now)) (length (start .args .answer .now)) (start .args .bytes .now) (decode-at .decode .ensures) (read-at .read .ensures)
 
 same-length : tie.Need-same-length
 same-length c = search needs
@@ -27,9 +27,11 @@ same-length-2 c = search needs
 
 returns : tie.Need-returns
 returns c =
-    let b = c .before .before .before .before .before .before .before .before .before .before .before .before .before .before .args .stored .now in
-    let known = rw (c .before .before .before .before .before .before .before .before .before .decode .ensures) at (c .before .before .before .before .before .before .before .read .ensures) in
-    exported-answer known (read-untimed (c .before .before .before .before .before .before .before .before .before .before .before .before .before .before .args .nonce .now) (length (c .before .before .before .before .before .before .before .before .before .before .before .before .before .before .args .answer .now)) (decoded b)) (c .before .before .finish .ensures)
+    let finish-at = c .before .before in
+    let read-at = finish-at .before .before .before .before .before in
+    let decode-at = read-at .before .before in
+    let start = decode-at .before .before .before .before .before in
+    answers-exports (read (start .args .nonce .now)) (length (start .args .answer .now)) (start .args .bytes .now) (decode-at .decode .ensures) (read-at .read .ensures) (finish-at .finish .ensures)
 
 pub tag-read-spec : {M : Type 1} → statement M
 tag-read-spec =

@@ -1,9 +1,8 @@
--- `firmware::tag_write` meets its contract: what the tag and the end of the call promise. Assumes nothing.
+-- `tag_write` meets its contract: what the tag and the end of the call promise.
 use lib.ListN.{length}
-use borrow.Author.Needs.{needs}
 use Rattle.tag.specs.Calls.{write}
-use Rattle.stored.specs.Layout.{decoded}
-use Rattle.firmware.proofs.Exporting.{back-whole, exported-answer, write-whole, write-untimed}
+use Rattle.firmware.proofs.Exporting.{answers-whole, answers-exports}
+use borrow.Author.Needs.{needs}
 use Rattle.firmware.proofs.tag_write.Statement.{statement}
 use Rattle.firmware.proofs.tag_write.Tie as tie
 
@@ -15,9 +14,10 @@ write-requires c κs = search needs
 
 finish-requires : tie.Need-finish-requires
 finish-requires c κs =
-    let b = c .before .before .before .before .before .before .before .before .before .before .before .args .stored .now in
-    let known = rw (c .before .before .before .before .before .before .decode .ensures) at (c .before .before .before .before .write .ensures) in
-    back-whole (write (c .before .before .before .before .before .before .before .before .before .before .before .args .request .now) (length (c .before .before .before .before .before .before .before .before .before .before .before .args .answer .now)) (decoded b)) b (c .before .before .before .before .write .result .reply) (write-whole b (c .before .before .before .before .before .before .before .before .before .before .before .args .request .now) (length (c .before .before .before .before .before .before .before .before .before .before .before .args .answer .now))) (known .endIs)
+    let write-at = c .before .before .before .before in
+    let decode-at = write-at .before .before in
+    let start = decode-at .before .before .before .before .before in
+    answers-whole (write (record { bytes = start .args .request .now })) (length (start .args .answer .now)) (start .args .bytes .now) (decode-at .decode .ensures) (write-at .write .ensures)
 
 same-length : tie.Need-same-length
 same-length c = search needs
@@ -27,9 +27,11 @@ same-length-2 c = search needs
 
 returns : tie.Need-returns
 returns c =
-    let b = c .before .before .before .before .before .before .before .before .before .before .before .before .before .before .args .stored .now in
-    let known = rw (c .before .before .before .before .before .before .before .before .before .decode .ensures) at (c .before .before .before .before .before .before .before .write .ensures) in
-    exported-answer known (write-untimed (c .before .before .before .before .before .before .before .before .before .before .before .before .before .before .args .request .now) (length (c .before .before .before .before .before .before .before .before .before .before .before .before .before .before .args .answer .now)) (decoded b)) (c .before .before .finish .ensures)
+    let finish-at = c .before .before in
+    let write-at = finish-at .before .before .before .before .before in
+    let decode-at = write-at .before .before in
+    let start = decode-at .before .before .before .before .before in
+    answers-exports (write (record { bytes = start .args .request .now })) (length (start .args .answer .now)) (start .args .bytes .now) (decode-at .decode .ensures) (write-at .write .ensures) (finish-at .finish .ensures)
 
 pub tag-write-spec : {M : Type 1} → statement M
 tag-write-spec =

@@ -1,4 +1,4 @@
--- `hash::digest` is SHA-256. The loop's invariant: the hash value is that of the first i blocks of the padded message. Assumes nothing.
+-- `hash::digest` is SHA-256. The loop's invariant: the hash value is that of the first i blocks of the padded message.
 use mathlib.Core.Path.{_≡_}
 use mathlib.Core.List.{_++_}
 use Prim.Native.Nat.{_-_, _≤_}

@@ -1,4 +1,4 @@
--- `hash::hmac` is HMAC: an inner and an outer hash under the masked key block. Assumes nothing.
+-- `hash::hmac` is HMAC: an inner and an outer hash under the masked key block.
 use Rattle.hash.proofs.Keys.{two-hashes}
 use borrow.Author.Needs.{needs}
 use Rattle.hash.proofs.hmac.Statement.{statement}

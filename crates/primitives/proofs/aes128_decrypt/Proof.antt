@@ -1,4 +1,4 @@
--- `aes128_decrypt` meets its contract: a size that a test found wrong refuses, and the block is given. Assumes nothing.
+-- `aes128_decrypt` meets its contract: a size that a test found wrong refuses, and the block is given.
 use mathlib.Core.Path.{ap₂, _∙_}
 use native.Mathlib.Omega.{arith}
 use denote.Ref.{now}

@@ -1,5 +1,5 @@
 -- `give` meets its contract: after i turns the first i bytes are pasted over the answer's, and there is no turn unless the bytes fit
--- exactly. Assumes nothing.
+-- exactly.
 use mathlib.Core.Path.{_≡_, refl, sym, ap, _∙_}
 use mathlib.Core.Logic.{⊎-elim}
 use Prim.Native.Nat.{_+_, _-_, _≤_, _<_}

@@ -1,4 +1,4 @@
--- `hash_pair` meets its contract: the two empty parts add nothing. Assumes nothing.
+-- `hash_pair` meets its contract: the two empty parts add nothing.
 use mathlib.Core.Path.{ap, _∙_}
 use mathlib.Core.List.{List, _++_, append-nil}
 use Prim.Native.Nat.{ℕ}

@@ -1,4 +1,4 @@
--- `hmac_sha256` meets its contract: a message in one part is the message. Assumes nothing.
+-- `hmac_sha256` meets its contract: a message in one part is the message.
 use mathlib.Core.List.{append-nil}
 use denote.Ref.{now}
 use borrow.Author.Needs.{needs}

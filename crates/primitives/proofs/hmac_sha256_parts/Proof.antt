@@ -1,5 +1,4 @@
 -- `hmac_sha256_parts` meets its contract: a size that a test found wrong, of a part or of the whole, refuses, and the code is given.
--- Assumes nothing.
 use mathlib.Core.List.{_++_}
 use native.Mathlib.Omega.{arith}
 use denote.Ref.{now}

@@ -1,4 +1,4 @@
--- `sha256` meets its contract: a message that is too long refuses, and the digest is given. Assumes nothing.
+-- `sha256` meets its contract: a message that is too long refuses, and the digest is given.
 use mathlib.Core.Path.{ap, _∙_}
 use mathlib.Core.List.{append-nil}
 use native.Mathlib.Omega.{arith}

@@ -1,4 +1,4 @@
--- `sixteen` meets its contract: as many bytes are given. Assumes nothing.
+-- `sixteen` meets its contract: as many bytes are given.
 use mathlib.Core.Path.{sym}
 use denote.Ref.{now}
 use borrow.Author.Needs.{needs}

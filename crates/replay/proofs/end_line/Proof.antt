@@ -1,4 +1,4 @@
--- `replay::end_line` meets its contract: a newline closes the line, another byte finds it too long. Assumes nothing.
+-- `replay::end_line` meets its contract: a newline closes the line, another byte finds it too long.
 use Rattle.replay.proofs.Pieces.{byte-closes, byte-breaks, takes-line}
 use borrow.Author.Needs.{needs}
 use lib.ListN.{length}

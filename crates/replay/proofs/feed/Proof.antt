@@ -1,4 +1,4 @@
--- `replay::feed` meets its contract: a session that is not sound takes nothing, another takes the piece. Assumes nothing.
+-- `replay::feed` meets its contract: a session that is not sound takes nothing, another takes the piece.
 use borrow.Author.Needs.{needs}
 use mathlib.Core.Path.{refl}
 use Rattle.laws.proofs.Flags.{clash}

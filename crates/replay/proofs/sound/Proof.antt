@@ -1,4 +1,4 @@
--- `replay::sound` meets its contract, a count each. Assumes nothing.
+-- `replay::sound` meets its contract, a count each.
 use mathlib.Core.Bool.{false≢true}
 use native.Mathlib.Omega.{arith}
 use borrow.Author.Tests.{le-leb, leb-true}

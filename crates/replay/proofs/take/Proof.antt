@@ -1,4 +1,4 @@
--- `replay::take` meets its contract: after `taken` bytes the session is the state of the feeding. Assumes nothing.
+-- `replay::take` meets its contract: after `taken` bytes the session is the state of the feeding.
 use Prim.Native.Nat.{_-_}
 use Rattle.replay.proofs.Pieces.{Passed, passed-none, passed-next, passed-ended, fed-so-far, over, no-room, takes-more}
 use lib.ListN.{length}

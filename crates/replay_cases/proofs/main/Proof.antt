@@ -1,4 +1,4 @@
--- `replay_cases::main` is safe and ends: each turn takes one of the arguments that are left. Assumes nothing.
+-- `replay_cases::main` is safe and ends: each turn takes one of the arguments that are left.
 use Prim.Native.Nat.{_-_}
 use native.Mathlib.Omega.{arith}
 use borrow.Author.Needs.{needs}

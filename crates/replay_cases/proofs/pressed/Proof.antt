@@ -1,4 +1,4 @@
--- `replay_cases::pressed` is safe and ends: the measure is the presses that are left. Assumes nothing.
+-- `replay_cases::pressed` is safe and ends: the measure is the presses that are left.
 use Prim.Native.Nat.{_-_}
 use native.Mathlib.Omega.{arith}
 use borrow.Author.Needs.{needs}

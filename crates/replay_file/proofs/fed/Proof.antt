@@ -1,4 +1,4 @@
--- `replay_file::fed` is safe and ends: the measure is what is left of the piece. Assumes nothing.
+-- `replay_file::fed` is safe and ends: the measure is what is left of the piece.
 use Prim.Native.Nat.{_≤_, _-_}
 use native.Mathlib.Omega.{arith}
 use borrow.Author.Needs.{needs}

@@ -1,4 +1,4 @@
--- `replay_file::from_descriptor` is safe and ends: each turn takes one of the reads that are left. Assumes nothing.
+-- `replay_file::from_descriptor` is safe and ends: each turn takes one of the reads that are left.
 use native.Mathlib.Omega.{arith}
 use borrow.Author.Needs.{needs}
 use Rattle.replay_file.proofs.from_descriptor.Statement.{statement}

@@ -1,4 +1,4 @@
--- `replay_file::written` is safe: what it lends is there. Assumes nothing.
+-- `replay_file::written` is safe: what it lends is there.
 use mathlib.Core.Path.{sym}
 use lib.Seq.{length-take-le}
 use borrow.Author.Needs.{needs}

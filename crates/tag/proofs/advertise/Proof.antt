@@ -1,7 +1,8 @@
--- `tag::advertise` meets its contract: too little room is refused, then a unit that is not well formed, and the rest is handed on. Assumes nothing.
+-- `tag::advertise` meets its contract: too little room is refused, then a unit that is not well formed, and the rest is handed on.
 use Rattle.unit.proofs.Lines.{lines}
-use Rattle.tag.specs.Calls.{frame}
-use Rattle.tag.proofs.Guards.{well-formed, answering-no-room, answering-own, answering-refuses, refused-answers}
+use Rattle.tag.specs.Calls.{guarded, call, own}
+use Rattle.tag.proofs.Guards.{well-formed, answering-no-room, answering-own, answering-refuses}
+use Rattle.unit.proofs.Ends.{refused-answers}
 use borrow.Author.Needs.{needs}
 use Rattle.tag.proofs.advertise.Statement.{statement}
 use Rattle.tag.proofs.advertise.Tie as tie
@@ -10,7 +11,7 @@ refuse-requires : tie.Need-refuse-requires
 refuse-requires c κs = search needs
 
 returns : tie.Need-returns
-unfolding frame
+unfolding guarded call own
 returns c = rw (answering-no-room _ _ _ (c .before .if1 .taken)) (refused-answers _ (c .refuse .ensures))
 
 well-formed-requires : tie.Need-well-formed-requires
@@ -25,7 +26,7 @@ same-length : tie.Need-same-length
 same-length c = search needs
 
 returns-2 : tie.Need-returns-2
-unfolding frame
+unfolding guarded call own
 returns-2 c =
     let test = c .before .before .before .before in
     rw (answering-own _ (test .before .well-formed .ensures) _ _ (test .before .before .if1 .left) (test .if2 .taken))
@@ -35,7 +36,7 @@ refuse-requires-2 : tie.Need-refuse-requires-2
 refuse-requires-2 c κs = search needs
 
 returns-3 : tie.Need-returns-3
-unfolding frame
+unfolding guarded call own
 returns-3 c =
     let test = c .before in
     rw (answering-refuses _ (test .before .well-formed .ensures) _ _ (test .before .before .if1 .left) (test .if2 .left))

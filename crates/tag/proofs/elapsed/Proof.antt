@@ -1,22 +1,23 @@
--- `tag::elapsed` meets its contract: too little room is refused, then a unit that is not well formed, and the rest is handed on. Assumes nothing.
-use Rattle.tag.specs.Calls.{elapsed}
-use Rattle.tag.proofs.Guards.{well-formed, answering-no-room, answering-own, answering-refuses, refused-passes}
+-- `tag::elapsed` meets its contract: too little room is refused, then a unit that is not well formed, and the rest is handed on.
+use Rattle.tag.specs.Calls.{guarded, elapsed}
+use Rattle.tag.proofs.Guards.{well-formed, answering-no-room, answering-own, answering-refuses}
+use Rattle.time.proofs.Refusing.{refused-passes}
 use borrow.Author.Needs.{needs}
 use Rattle.tag.proofs.elapsed.Statement.{statement}
 use Rattle.tag.proofs.elapsed.Tie as tie
 
-stopped-requires : tie.Need-stopped-requires
-stopped-requires c κs = search needs
+refused-requires : tie.Need-refused-requires
+refused-requires c κs = search needs
 
 returns : tie.Need-returns
-unfolding elapsed
-returns c = rw (answering-no-room _ _ _ (c .before .if1 .taken)) (refused-passes _ (c .stopped .ensures))
+unfolding guarded elapsed
+returns c = rw (answering-no-room _ _ _ (c .before .if1 .taken)) (refused-passes _ (c .refused .ensures))
 
 well-formed-requires : tie.Need-well-formed-requires
 well-formed-requires c κs = search needs
 
-passed-requires : tie.Need-passed-requires
-passed-requires c κs =
+elapse-requires : tie.Need-elapse-requires
+elapse-requires c κs =
     let test = c .before in
     (well-formed _ (test .before .well-formed .ensures) (test .if2 .taken), test .before .before .if1 .left)
 
@@ -24,31 +25,31 @@ same-length : tie.Need-same-length
 same-length c = search needs
 
 returns-2 : tie.Need-returns-2
-unfolding elapsed
+unfolding guarded elapsed
 returns-2 c =
     let test = c .before .before .before .before in
     rw (answering-own _ (test .before .well-formed .ensures) _ _ (test .before .before .if1 .left) (test .if2 .taken))
-    (c .before .before .passed .ensures)
+    (c .before .before .elapse .ensures)
 
-stopped-requires-2 : tie.Need-stopped-requires-2
-stopped-requires-2 c κs = search needs
+refused-requires-2 : tie.Need-refused-requires-2
+refused-requires-2 c κs = search needs
 
 returns-3 : tie.Need-returns-3
-unfolding elapsed
+unfolding guarded elapsed
 returns-3 c =
     let test = c .before in
     rw (answering-refuses _ (test .before .well-formed .ensures) _ _ (test .before .before .if1 .left) (test .if2 .left))
-    (refused-passes _ (c .stopped2 .ensures))
+    (refused-passes _ (c .refused2 .ensures))
 
 pub elapsed-spec : {M : Type 1} → statement M
 elapsed-spec =
     tie.close
     (tie.spec
-    stopped-requires
+    refused-requires
     returns
     well-formed-requires
-    passed-requires
+    elapse-requires
     same-length
     returns-2
-    stopped-requires-2
+    refused-requires-2
     returns-3)

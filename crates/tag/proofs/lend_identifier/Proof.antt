@@ -1,6 +1,7 @@
--- `tag::lend_identifier` meets its contract: a well-formed unit is handed on, another is refused. Assumes nothing.
-use Rattle.tag.specs.Calls.{lendIdentifier}
-use Rattle.tag.proofs.Guards.{formed-own, formed-refuses, refused-settles}
+-- `tag::lend_identifier` meets its contract: a well-formed unit is handed on, another is refused.
+use Rattle.tag.specs.Calls.{guarded, call, own}
+use Rattle.tag.proofs.Guards.{formed-own, formed-refuses}
+use Rattle.unit.proofs.Ends.{refused-settles}
 use borrow.Author.Needs.{needs}
 use Rattle.tag.proofs.lend_identifier.Statement.{statement}
 use Rattle.tag.proofs.lend_identifier.Tie as tie
@@ -12,14 +13,14 @@ lent-requires : tie.Need-lent-requires
 lent-requires c κs = search needs
 
 returns : tie.Need-returns
-unfolding lendIdentifier
+unfolding guarded call own
 returns c = rw (formed-own _ (c .before .before .well-formed .ensures) _ (c .before .if1 .taken)) (c .lent .ensures)
 
 refuse-requires : tie.Need-refuse-requires
 refuse-requires c κs = search needs
 
 returns-2 : tie.Need-returns-2
-unfolding lendIdentifier
+unfolding guarded call own
 returns-2 c = rw (formed-refuses _ (c .before .before .well-formed .ensures) _ (c .before .if1 .left)) (refused-settles (c .refuse .ensures))
 
 pub lend-identifier-spec : {M : Type 1} → statement M

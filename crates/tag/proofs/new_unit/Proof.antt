@@ -1,4 +1,5 @@
--- `tag::new_unit` meets its contract: settings out of range fail one of their lines. Assumes nothing.
+-- `tag::new_unit` meets its contract: settings out of range fail one of their lines.
+use Rattle.unit.proofs.Ends.{refused-settles, done-settles}
 use mir.Facts.{toZ-ofZ}
 use Prim.Native.Nat.{ℕ}
 use lib.IntN.{ℤ}
@@ -10,7 +11,6 @@ use Rattle.unit.proofs.Lines.{settings-lines, settings-legal}
 use Rattle.unit.specs.WellFormed.{settingsLegal}
 use Rattle.unit.specs.declared.Settings.{Settings}
 use Rattle.tag.specs.Calls.{newUnit}
-use Rattle.tag.proofs.Guards.{refused-settles, done-settles}
 use borrow.Author.Needs.{needs}
 use Rattle.tag.proofs.new_unit.Statement.{statement}
 use Rattle.tag.proofs.new_unit.Tie as tie
@@ -18,14 +18,17 @@ use Rattle.tag.proofs.new_unit.Tie as tie
 abbrev asked : ℤ → ℕ → ℕ → Settings
 asked power components selectable = record { power = power; components = components; selectable = selectable }
 
+cast-if1 : tie.Need-cast-if1
+cast-if1 c = search needs
+
 no-unit-requires : tie.Need-no-unit-requires
 no-unit-requires c κs = search needs
 
 returns : tie.Need-returns
 unfolding newUnit
 returns c =
-    let a = c .before .before .args in
-    let s = asked (a .power) (a .components) (a .selectable) in
+    let start = c .before .before in
+    let s = asked (start .args .power) (start .args .components) (start .args .selectable) in
     let no : settingsLegal s ≡ false = fails _ (λ e. omega (arith, settings-lines s e .components)) in
     rw no (refused-settles (c .no-unit .ensures))
 
@@ -35,19 +38,19 @@ no-unit-requires-2 c κs = search needs
 returns-2 : tie.Need-returns-2
 unfolding newUnit
 returns-2 c =
-    let a = c .before .before .before .args in
-    let s = asked (a .power) (a .components) (a .selectable) in
+    let start = c .before .before .before in
+    let s = asked (start .args .power) (start .args .components) (start .args .selectable) in
     let no : settingsLegal s ≡ false = fails _ (λ e. omega (arith, settings-lines s e .selectable)) in
     rw no (refused-settles (c .no-unit2 .ensures))
 
 power-legal-requires : tie.Need-power-legal-requires
 power-legal-requires c κs = search needs
 
-cast-t7 : tie.Need-cast-t7
-cast-t7 c = search needs
-
 cast-t8 : tie.Need-cast-t8
 cast-t8 c = search needs
+
+cast-t9 : tie.Need-cast-t9
+cast-t9 c = search needs
 
 fresh-requires : tie.Need-fresh-requires
 fresh-requires c κs = search needs
@@ -58,18 +61,22 @@ accept-requires c κs = search needs
 returns-3 : tie.Need-returns-3
 unfolding newUnit
 returns-3 c =
-    let test = c .before .before in
-    let start = test .before .before .before .before in
+    let fresh-at = c .before in
+    let if3-at = fresh-at .before in
+    let power-legal-at = if3-at .before in
+    let if2-at = power-legal-at .before in
+    let if1-at = if2-at .before in
+    let start = if1-at .before in
     let s = asked (start .args .power) (start .args .components) (start .args .selectable) in
     let kept = toZ-ofZ (start .fits .power) in
     let yes
     = settings-legal s
     (record {
-      power = rw kept at (sym (test .before .power-legal .ensures) ∙ test .if3 .taken);
-      components = test .before .before .before .if1 .left;
-      selectable = test .before .before .if2 .left;
+      power = rw kept at (sym (power-legal-at .power-legal .ensures) ∙ if3-at .if3 .taken);
+      components = if1-at .if1 .left;
+      selectable = if2-at .if2 .left;
     }) in
-    rw yes (done-settles (rw (c .before .fresh .ensures, kept) at (c .accept .ensures)))
+    rw yes (done-settles (rw (fresh-at .fresh .ensures, kept) at (c .accept .ensures)))
 
 no-unit-requires-3 : tie.Need-no-unit-requires-3
 no-unit-requires-3 c κs = search needs
@@ -77,9 +84,11 @@ no-unit-requires-3 c κs = search needs
 returns-4 : tie.Need-returns-4
 unfolding newUnit
 returns-4 c =
-    let start = c .before .before .before .before .before in
+    let if3-at = c .before in
+    let power-legal-at = if3-at .before in
+    let start = power-legal-at .before .before .before in
     let s = asked (start .args .power) (start .args .components) (start .args .selectable) in
-    let beyond = rw (toZ-ofZ (start .fits .power)) at (sym (c .before .before .power-legal .ensures) ∙ c .before .if3 .left) in
+    let beyond = rw (toZ-ofZ (start .fits .power)) at (sym (power-legal-at .power-legal .ensures) ∙ if3-at .if3 .left) in
     let no : settingsLegal s ≡ false = fails _ (λ e. clash (settings-lines s e .power) beyond) in
     rw no (refused-settles (c .no-unit3 .ensures))
 
@@ -87,13 +96,14 @@ pub new-unit-spec : {M : Type 1} → statement M
 new-unit-spec =
     tie.close
     (tie.spec
+    cast-if1
     no-unit-requires
     returns
     no-unit-requires-2
     returns-2
     power-legal-requires
-    cast-t7
     cast-t8
+    cast-t9
     fresh-requires
     accept-requires
     returns-3

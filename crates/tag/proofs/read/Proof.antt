@@ -1,6 +1,7 @@
--- `tag::read` meets its contract: too little room is refused, then a unit that is not well formed, and the rest is handed on. Assumes nothing.
-use Rattle.tag.specs.Calls.{read}
-use Rattle.tag.proofs.Guards.{answering-no-room, answering-own, answering-refuses, refused-answers}
+-- `tag::read` meets its contract: too little room is refused, then a unit that is not well formed, and the rest is handed on.
+use Rattle.tag.specs.Calls.{guarded, call, own}
+use Rattle.tag.proofs.Guards.{answering-no-room, answering-own, answering-refuses}
+use Rattle.unit.proofs.Ends.{refused-answers}
 use borrow.Author.Needs.{needs}
 use Rattle.tag.proofs.read.Statement.{statement}
 use Rattle.tag.proofs.read.Tie as tie
@@ -9,7 +10,7 @@ refuse-requires : tie.Need-refuse-requires
 refuse-requires c κs = search needs
 
 returns : tie.Need-returns
-unfolding read
+unfolding guarded call own
 returns c = rw (answering-no-room _ _ _ (c .before .if1 .taken)) (refused-answers _ (c .refuse .ensures))
 
 well-formed-requires : tie.Need-well-formed-requires
@@ -22,7 +23,7 @@ same-length : tie.Need-same-length
 same-length c = search needs
 
 returns-2 : tie.Need-returns-2
-unfolding read
+unfolding guarded call own
 returns-2 c =
     let test = c .before .before .before .before in
     rw (answering-own _ (test .before .well-formed .ensures) _ _ (test .before .before .if1 .left) (test .if2 .taken))
@@ -32,7 +33,7 @@ refuse-requires-2 : tie.Need-refuse-requires-2
 refuse-requires-2 c κs = search needs
 
 returns-3 : tie.Need-returns-3
-unfolding read
+unfolding guarded call own
 returns-3 c =
     let test = c .before in
     rw (answering-refuses _ (test .before .well-formed .ensures) _ _ (test .before .before .if1 .left) (test .if2 .left))

@@ -1,6 +1,7 @@
--- `tag::write` meets its contract: too little room is refused, then a unit that is not well formed, and the rest is handed on. Assumes nothing.
-use Rattle.tag.specs.Calls.{write}
-use Rattle.tag.proofs.Guards.{well-formed, answering-no-room, answering-own, answering-refuses, refused-answers}
+-- `tag::write` meets its contract: too little room is refused, then a unit that is not well formed, and the rest is handed on.
+use Rattle.tag.specs.Calls.{guarded, call, own}
+use Rattle.tag.proofs.Guards.{well-formed, answering-no-room, answering-own, answering-refuses}
+use Rattle.unit.proofs.Ends.{refused-answers}
 use borrow.Author.Needs.{needs}
 use Rattle.tag.proofs.write.Statement.{statement}
 use Rattle.tag.proofs.write.Tie as tie
@@ -9,7 +10,7 @@ refuse-requires : tie.Need-refuse-requires
 refuse-requires c κs = search needs
 
 returns : tie.Need-returns
-unfolding write
+unfolding guarded call own
 returns c = rw (answering-no-room _ _ _ (c .before .if1 .taken)) (refused-answers _ (c .refuse .ensures))
 
 well-formed-requires : tie.Need-well-formed-requires
@@ -24,7 +25,7 @@ same-length : tie.Need-same-length
 same-length c = search needs
 
 returns-2 : tie.Need-returns-2
-unfolding write
+unfolding guarded call own
 returns-2 c =
     let test = c .before .before .before .before in
     rw (answering-own _ (test .before .well-formed .ensures) _ _ (test .before .before .if1 .left) (test .if2 .taken))
@@ -34,7 +35,7 @@ refuse-requires-2 : tie.Need-refuse-requires-2
 refuse-requires-2 c κs = search needs
 
 returns-3 : tie.Need-returns-3
-unfolding write
+unfolding guarded call own
 returns-3 c =
     let test = c .before in
     rw (answering-refuses _ (test .before .well-formed .ensures) _ _ (test .before .before .if1 .left) (test .if2 .left))

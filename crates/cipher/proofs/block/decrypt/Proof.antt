@@ -1,4 +1,4 @@
--- `block::decrypt` meets its contract: with n rounds to go the loop still leads to what the start leads to. Assumes nothing.
+-- `block::decrypt` meets its contract: with n rounds to go the loop still leads to what the start leads to.
 use mathlib.Core.Path.{_≡_, refl}
 use Prim.Native.Nat.{_+_, _-_, _≤_}
 use native.Mathlib.Omega.{arith}

@@ -1,4 +1,4 @@
--- `block::encrypt` meets its contract: n turns of the loop are the first n full rounds. Assumes nothing.
+-- `block::encrypt` meets its contract: n turns of the loop are the first n full rounds.
 use mathlib.Core.Path.{_≡_, sym, _∙_}
 use mathlib.Core.List.{List}
 use Prim.Native.Nat.{ℕ, _-_, _≤_}

@@ -1,4 +1,4 @@
--- `field::times_eleven` meets its contract: products with 2 make up that with 11. Assumes nothing.
+-- `field::times_eleven` meets its contract: products with 2 make up that with 11.
 use borrow.Author.Needs.{needs}
 use Rattle.cipher.proofs.Linear.{eleven}
 use Rattle.cipher.proofs.field.times_eleven.Statement.{statement}

@@ -1,4 +1,4 @@
--- `field::times_fourteen` meets its contract: products with 2 make up that with 14. Assumes nothing.
+-- `field::times_fourteen` meets its contract: products with 2 make up that with 14.
 use borrow.Author.Needs.{needs}
 use Rattle.cipher.proofs.Linear.{fourteen}
 use Rattle.cipher.proofs.field.times_fourteen.Statement.{statement}

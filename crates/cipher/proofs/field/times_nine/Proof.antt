@@ -1,4 +1,4 @@
--- `field::times_nine` meets its contract: products with 2 make up that with 9. Assumes nothing.
+-- `field::times_nine` meets its contract: products with 2 make up that with 9.
 use borrow.Author.Needs.{needs}
 use Rattle.cipher.proofs.Linear.{nine}
 use Rattle.cipher.proofs.field.times_nine.Statement.{statement}

@@ -1,4 +1,4 @@
--- `field::times_thirteen` meets its contract: products with 2 make up that with 13. Assumes nothing.
+-- `field::times_thirteen` meets its contract: products with 2 make up that with 13.
 use borrow.Author.Needs.{needs}
 use Rattle.cipher.proofs.Linear.{thirteen}
 use Rattle.cipher.proofs.field.times_thirteen.Statement.{statement}

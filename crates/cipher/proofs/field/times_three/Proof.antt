@@ -1,4 +1,4 @@
--- `field::times_three` meets its contract: products with 2 make up that with 3. Assumes nothing.
+-- `field::times_three` meets its contract: products with 2 make up that with 3.
 use borrow.Author.Needs.{needs}
 use Rattle.cipher.proofs.Linear.{three}
 use Rattle.cipher.proofs.field.times_three.Statement.{statement}

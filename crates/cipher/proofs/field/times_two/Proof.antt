@@ -1,5 +1,4 @@
 -- `field::times_two` meets its contract: the shift of a byte, with the modulus taken off, is its product with 2.
--- Assumes nothing.
 use borrow.Author.Needs.{needs}
 use mathlib.Core.Path.{sym}
 use Rattle.cipher.proofs.Linear.{two-low, two-high}

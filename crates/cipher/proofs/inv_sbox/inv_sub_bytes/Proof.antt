@@ -1,4 +1,4 @@
--- `inv_sbox::inv_sub_bytes` meets its contract: its table is the one that `Boxes` tests. Assumes nothing.
+-- `inv_sbox::inv_sub_bytes` meets its contract: its table is the one that `Boxes` tests.
 use mathlib.Core.Path.{_∙_}
 use lib.ListN.{getD}
 use mir.Syntax.{w8}

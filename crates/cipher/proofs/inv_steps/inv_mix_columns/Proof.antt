@@ -1,4 +1,4 @@
--- `inv_steps::inv_mix_columns` meets its contract: the loop fills the next state from the front. Assumes nothing.
+-- `inv_steps::inv_mix_columns` meets its contract: the loop fills the next state from the front.
 use mathlib.Core.Path.{_≡_, ap₂, _∙_}
 use Prim.Native.Nat.{_≤_, _<_, _-_}
 use native.Mathlib.Omega.{arith}

@@ -1,4 +1,4 @@
--- `inv_steps::inv_shift_rows` meets its contract: antt computes the definition's place for each of the 16. Assumes nothing.
+-- `inv_steps::inv_shift_rows` meets its contract: antt computes the definition's place for each of the 16.
 use mathlib.Core.Path.{refl}
 use Rattle.laws.specs.Bytes.{tabulate}
 use Rattle.cipher.specs.Aes.{stateOf, InvShiftRows}

@@ -1,4 +1,4 @@
--- `lookup::look_up` meets its contract: the loop puts the entries in front, one a turn. Assumes nothing.
+-- `lookup::look_up` meets its contract: the loop puts the entries in front, one a turn.
 use mathlib.Core.Path.{_≡_, refl, sym, ap, _∙_}
 use mathlib.Core.List.{List}
 use Prim.Native.Nat.{ℕ, _≤_, _<_, _-_}

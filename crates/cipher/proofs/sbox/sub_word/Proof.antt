@@ -1,4 +1,4 @@
--- `sbox::sub_word` meets its contract: its table is the one that `Boxes` tests. Assumes nothing.
+-- `sbox::sub_word` meets its contract: its table is the one that `Boxes` tests.
 use mathlib.Core.Path.{_∙_}
 use lib.ListN.{getD}
 use mir.Syntax.{w8}

@@ -1,4 +1,4 @@
--- `schedule::added` meets its contract: the two cases of the standard for Nk = 4. Assumes nothing.
+-- `schedule::added` meets its contract: the two cases of the standard for Nk = 4.
 use mathlib.Core.Path.{_≡_}
 use borrow.Author.Needs.{needs}
 use lib.ListN.{length}

@@ -1,5 +1,4 @@
 -- `schedule::expand` meets its contract: the first loop copies the key, and the second one adds a word a turn.
--- Assumes nothing.
 use mathlib.Core.Path.{_≡_, refl, sym, ap, _∙_}
 use mathlib.Core.List.{List}
 use Prim.Native.Nat.{ℕ, _+_, _-_, _*_, _≤_, _<_}

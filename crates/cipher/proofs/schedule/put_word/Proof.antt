@@ -1,4 +1,4 @@
--- `schedule::put_word` meets its contract: four stores in a row. Assumes nothing.
+-- `schedule::put_word` meets its contract: four stores in a row.
 use native.Mathlib.Omega.{arith}
 use lib.ListN.{length-set}
 use Rattle.cipher.proofs.Words.{word-stored}

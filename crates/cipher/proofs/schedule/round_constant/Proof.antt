@@ -1,4 +1,4 @@
--- `schedule::round_constant` meets its contract, by a test that antt computes over the table. Assumes nothing.
+-- `schedule::round_constant` meets its contract, by a test that antt computes over the table.
 use mathlib.Core.Path.{ap}
 use mathlib.Core.List.{List, [], _∷_}
 use Prim.Native.Nat.{ℕ, _-_, _<_}

@@ -1,4 +1,4 @@
--- `schedule::sum` meets its contract: XOR place by place at the four bytes. Assumes nothing.
+-- `schedule::sum` meets its contract: XOR place by place at the four bytes.
 use Rattle.cipher.proofs.Words.{word-sum}
 use borrow.Author.Needs.{needs}
 use Rattle.cipher.proofs.schedule.sum.Statement.{statement}

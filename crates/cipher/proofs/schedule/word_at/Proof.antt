@@ -1,4 +1,4 @@
--- `schedule::word_at` meets its contract: a word is its four bytes. Assumes nothing.
+-- `schedule::word_at` meets its contract: a word is its four bytes.
 use Rattle.cipher.proofs.Words.{word-read}
 use borrow.Author.Needs.{needs}
 use Rattle.cipher.proofs.schedule.word_at.Statement.{statement}

@@ -1,4 +1,4 @@
--- `steps::add_round_key` meets its contract: the loop fills the next state from the front. Assumes nothing.
+-- `steps::add_round_key` meets its contract: the loop fills the next state from the front.
 use mathlib.Core.Path.{_≡_, refl, sym, _∙_}
 use Prim.Native.Nat.{_-_, _≤_, _<_}
 use native.Mathlib.Omega.{arith}

@@ -1,4 +1,4 @@
--- `steps::mix_columns` meets its contract: the loop fills the next state from the front. Assumes nothing.
+-- `steps::mix_columns` meets its contract: the loop fills the next state from the front.
 use mathlib.Core.Path.{_≡_, sym, ap₂, _∙_}
 use Prim.Native.Nat.{ℕ, _+_, _-_, _%_, _≤_, _<_}
 use native.Mathlib.Omega.{arith}

@@ -1,4 +1,4 @@
--- `hash::compress::added` adds the two hash values word by word, modulo 2^32. Assumes nothing.
+-- `hash::compress::added` adds the two hash values word by word, modulo 2^32.
 use Rattle.hash.specs.Sha256.{added}
 use borrow.Author.Needs.{needs}
 use Rattle.hash.proofs.compress.added.Statement.{statement}

@@ -1,4 +1,4 @@
--- `hash::compress::compress` is the standard's: its four passes are the 64 turns. Assumes nothing.
+-- `hash::compress::compress` is the standard's: its four passes are the 64 turns.
 use mathlib.Core.Path.{_≡_, _∙_}
 use native.Mathlib.Omega.{arith}
 use lib.ListN.{length}

@@ -1,4 +1,4 @@
--- `hash::compress::sixteen_turns` takes sixteen turns. The loop's invariant: i turns have been taken. Assumes nothing.
+-- `hash::compress::sixteen_turns` takes sixteen turns. The loop's invariant: i turns have been taken.
 use mathlib.Core.Path.{_≡_}
 use Prim.Native.Nat.{_-_, _≤_}
 use native.Mathlib.Omega.{arith}

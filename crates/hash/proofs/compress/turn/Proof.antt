@@ -1,4 +1,4 @@
--- `hash::compress::turn` is one turn of the standard: its sums of four calls are those of T₁ and T₂. Assumes nothing.
+-- `hash::compress::turn` is one turn of the standard: its sums of four calls are those of T₁ and T₂.
 use Rattle.hash.specs.Sha256.{turn, T₁, T₂}
 use borrow.Author.Needs.{needs}
 use Rattle.hash.proofs.compress.turn.Statement.{statement}

@@ -1,4 +1,4 @@
--- `hash::message::load` gives a block, from the part that it lies in or byte by byte. Assumes nothing.
+-- `hash::message::load` gives a block, from the part that it lies in or byte by byte.
 use mathlib.Core.Path.{_∙_}
 use Prim.Native.Nat.{_+_, _*_, _^_, _<_}
 use native.Mathlib.Omega.{arith}

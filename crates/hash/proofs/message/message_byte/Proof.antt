@@ -1,4 +1,4 @@
--- `hash::message::message_byte` finds the part that the byte lies in. Assumes nothing.
+-- `hash::message::message_byte` finds the part that the byte lies in.
 use native.Mathlib.Omega.{arith}
 use denote.Ref.{now}
 use Rattle.hash.proofs.Padded.{in-first, in-head, in-tail, in-last}

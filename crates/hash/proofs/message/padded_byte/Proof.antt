@@ -1,4 +1,4 @@
--- `hash::message::padded_byte` gives a byte of the message or of its padding. Assumes nothing.
+-- `hash::message::padded_byte` gives a byte of the message or of its padding.
 use mathlib.Core.Path.{_∙_}
 use mathlib.Core.List.{_++_}
 use native.Mathlib.Omega.{arith}

@@ -1,4 +1,4 @@
--- `hash::message::padded_word` gives the number of four bytes of the padded message. Assumes nothing.
+-- `hash::message::padded_word` gives the number of four bytes of the padded message.
 use mathlib.Core.Path.{sym, _∙_}
 use mathlib.Core.List.{_++_}
 use Prim.Native.Nat.{_+_, _^_, _<_}

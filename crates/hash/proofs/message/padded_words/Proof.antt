@@ -1,4 +1,4 @@
--- `hash::message::padded_words` reads sixteen words of the padded message. The loop's invariant: the first t words are in place. Assumes nothing.
+-- `hash::message::padded_words` reads sixteen words of the padded message. The loop's invariant: the first t words are in place.
 use mathlib.Core.Path.{_≡_, _∙_}
 use mathlib.Core.List.{_++_}
 use Prim.Native.Nat.{_+_, _-_, _*_, _≤_}

@@ -1,4 +1,4 @@
--- `hash::message::padding_byte` gives a byte of the padding: the mark, a zero, or a byte of the length. Assumes nothing.
+-- `hash::message::padding_byte` gives a byte of the padding: the mark, a zero, or a byte of the length.
 use Rattle.hash.specs.Sha256.{zeros}
 use Rattle.hash.proofs.Padded.{length-padding, padding-mark, padding-zero, padding-length}
 use native.Mathlib.Omega.{arith}

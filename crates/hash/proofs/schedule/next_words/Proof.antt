@@ -1,4 +1,4 @@
--- `hash::schedule::next_words` gives the next sixteen words. The loop's invariant: the words before t are those sixteen further on. Assumes nothing.
+-- `hash::schedule::next_words` gives the next sixteen words. The loop's invariant: the words before t are those sixteen further on.
 use mathlib.Core.Path.{_≡_}
 use Prim.Native.Nat.{_-_, _≤_}
 use native.Mathlib.Omega.{arith}

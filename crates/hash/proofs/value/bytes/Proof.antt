@@ -1,4 +1,4 @@
--- `hash::value::bytes` writes the eight words' bytes. The loop's invariant: the first i bytes are in place. Assumes nothing.
+-- `hash::value::bytes` writes the eight words' bytes. The loop's invariant: the first i bytes are in place.
 use mathlib.Core.Path.{_≡_, refl, _∙_}
 use Prim.Native.Nat.{_-_, _≤_}
 use native.Mathlib.Omega.{arith}

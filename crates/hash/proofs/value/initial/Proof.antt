@@ -1,4 +1,4 @@
--- `hash::value::initial` is H⁰, by computation. Assumes nothing.
+-- `hash::value::initial` is H⁰, by computation.
 use mathlib.Core.Path.{refl}
 use Rattle.hash.specs.Sha256.{H⁰}
 use Rattle.hash.proofs.value.initial.Statement.{statement}

@@ -1,4 +1,4 @@
--- `hash::word::big_sigma0` is Σ0, by computation. Assumes nothing.
+-- `hash::word::big_sigma0` is Σ0, by computation.
 use mathlib.Core.Path.{refl}
 use Rattle.hash.specs.Sha256.{Σ0}
 use Rattle.hash.proofs.word.big_sigma0.Statement.{statement}

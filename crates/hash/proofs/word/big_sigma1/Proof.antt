@@ -1,4 +1,4 @@
--- `hash::word::big_sigma1` is Σ1, by computation. Assumes nothing.
+-- `hash::word::big_sigma1` is Σ1, by computation.
 use mathlib.Core.Path.{refl}
 use Rattle.hash.specs.Sha256.{Σ1}
 use Rattle.hash.proofs.word.big_sigma1.Statement.{statement}

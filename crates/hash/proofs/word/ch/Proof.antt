@@ -1,4 +1,4 @@
--- `hash::word::ch` is Ch, by computation. Assumes nothing.
+-- `hash::word::ch` is Ch, by computation.
 use mathlib.Core.Path.{refl}
 use Rattle.hash.specs.Sha256.{Ch}
 use Rattle.hash.proofs.word.ch.Statement.{statement}

@@ -1,4 +1,4 @@
--- `hash::word::maj` is Maj, by computation. Assumes nothing.
+-- `hash::word::maj` is Maj, by computation.
 use mathlib.Core.Path.{refl}
 use Rattle.hash.specs.Sha256.{Maj}
 use Rattle.hash.proofs.word.maj.Statement.{statement}

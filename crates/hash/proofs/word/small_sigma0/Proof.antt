@@ -1,4 +1,4 @@
--- `hash::word::small_sigma0` is σ0, by computation. Assumes nothing.
+-- `hash::word::small_sigma0` is σ0, by computation.
 use mathlib.Core.Path.{refl}
 use Rattle.hash.specs.Sha256.{σ0}
 use Rattle.hash.proofs.word.small_sigma0.Statement.{statement}

@@ -1,4 +1,4 @@
--- `hash::word::small_sigma1` is σ1, by computation. Assumes nothing.
+-- `hash::word::small_sigma1` is σ1, by computation.
 use mathlib.Core.Path.{refl}
 use Rattle.hash.specs.Sha256.{σ1}
 use Rattle.hash.proofs.word.small_sigma1.Statement.{statement}

@@ -1,44 +1,44 @@
--- `replay::reading::flag` meets its contract: the two tests are the definition's. Assumes nothing.
+-- `replay::reading::flag` meets its contract: the two tests are the definition's.
 use mathlib.Core.Path.{sym, _∙_}
 use borrow.Author.Needs.{needs}
 use Rattle.notation.specs.Reading.{flag}
 use Rattle.notation.proofs.reading.flag.Statement.{statement}
 use Rattle.notation.proofs.reading.flag.Tie as tie
 
-slice-aggregate-is : tie.Need-slice-aggregate-is
-slice-aggregate-is c = search needs
+slice-aggregate-same : tie.Need-slice-aggregate-same
+slice-aggregate-same c = search needs
 
-is-requires : tie.Need-is-requires
-is-requires c κs = search needs
+same-requires : tie.Need-same-requires
+same-requires c κs = search needs
 
 returns : tie.Need-returns
 unfolding flag
-returns c = simp (sym (c .before .is .ensures) ∙ c .if1 .taken)
+returns c = simp (sym (c .before .same .ensures) ∙ c .if1 .taken)
 
-slice-aggregate-is-2 : tie.Need-slice-aggregate-is-2
-slice-aggregate-is-2 c = search needs
+slice-aggregate-same-2 : tie.Need-slice-aggregate-same-2
+slice-aggregate-same-2 c = search needs
 
-is-requires-2 : tie.Need-is-requires-2
-is-requires-2 c κs = search needs
+same-requires-2 : tie.Need-same-requires-2
+same-requires-2 c κs = search needs
 
 returns-2 : tie.Need-returns-2
 unfolding flag
 returns-2 c =
-    simp (sym (c .before .before .before .before .is .ensures) ∙ c .before .before .before .if1 .left, sym (c .before .is2 .ensures) ∙ c .if2 .taken)
+    simp (sym (c .before .before .before .before .same .ensures) ∙ c .before .before .before .if1 .left, sym (c .before .same2 .ensures) ∙ c .if2 .taken)
 
 returns-3 : tie.Need-returns-3
 unfolding flag
 returns-3 c =
-    simp (sym (c .before .before .before .before .is .ensures) ∙ c .before .before .before .if1 .left, sym (c .before .is2 .ensures) ∙ c .if2 .left)
+    simp (sym (c .before .before .before .before .same .ensures) ∙ c .before .before .before .if1 .left, sym (c .before .same2 .ensures) ∙ c .if2 .left)
 
 pub flag-spec : {M : Type 1} → statement M
 flag-spec =
     tie.close
     (tie.spec
-    slice-aggregate-is
-    is-requires
+    slice-aggregate-same
+    same-requires
     returns
-    slice-aggregate-is-2
-    is-requires-2
+    slice-aggregate-same-2
+    same-requires-2
     returns-2
     returns-3)

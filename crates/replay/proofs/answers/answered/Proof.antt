@@ -1,4 +1,4 @@
--- `replay::answers::answered` meets its contract, a case of the reply each. Assumes nothing.
+-- `replay::answers::answered` meets its contract, a case of the reply each.
 use borrow.Author.Needs.{needs}
 use mathlib.Core.Path.{refl}
 use native.Mathlib.Omega.{arith}

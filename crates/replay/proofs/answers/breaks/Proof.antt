@@ -1,4 +1,4 @@
--- `replay::answers::breaks` meets its contract: the run is ended, and the text is of at most 33 bytes. Assumes nothing.
+-- `replay::answers::breaks` meets its contract: the run is ended, and the text is of at most 33 bytes.
 use native.Mathlib.Omega.{arith}
 use mathlib.Core.Path.{refl}
 use borrow.Author.Needs.{needs}

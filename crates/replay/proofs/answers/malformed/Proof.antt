@@ -1,4 +1,4 @@
--- `replay::answers::malformed` meets its contract: the number behind a text. Assumes nothing.
+-- `replay::answers::malformed` meets its contract: the number behind a text.
 use borrow.Author.Needs.{needs}
 use Rattle.replay.specs.Event.{malformedText}
 use Rattle.replay.proofs.answers.malformed.Statement.{statement}

@@ -1,11 +1,11 @@
--- `replay::answers::refused` meets its contract: the refusal's number behind a text. Assumes nothing.
+-- `replay::answers::refused` meets its contract: the refusal's number behind a text.
 use borrow.Author.Needs.{needs}
 use Rattle.replay.specs.Event.{refusedText}
 use Rattle.replay.proofs.answers.refused.Statement.{statement}
 use Rattle.replay.proofs.answers.refused.Tie as tie
 
-code-requires : tie.Need-code-requires
-code-requires c κs = search needs
+number-requires : tie.Need-number-requires
+number-requires c κs = search needs
 
 slice-aggregate-hex-line : tie.Need-slice-aggregate-hex-line
 slice-aggregate-hex-line c = search needs
@@ -21,13 +21,13 @@ same-length c = search needs
 
 returns : tie.Need-returns
 unfolding refusedText
-returns c = rw (c .before .before .before .before .before .before .code .ensures) at (c .before .before .hex-line .ensures)
+returns c = rw (c .before .before .before .before .before .before .number .ensures) at (c .before .before .hex-line .ensures)
 
 pub refused-spec : {M : Type 1} → statement M
 refused-spec =
     tie.close
     (tie.spec
-    code-requires
+    number-requires
     slice-aggregate-hex-line
     slice-aggregate-hex-line-2
     hex-line-requires

@@ -1,4 +1,4 @@
--- `replay::answers::settled` meets its contract, a case of the reply each. Assumes nothing.
+-- `replay::answers::settled` meets its contract, a case of the reply each.
 use borrow.Author.Needs.{needs}
 use mathlib.Core.Path.{refl}
 use Rattle.replay.proofs.answers.settled.Statement.{statement}

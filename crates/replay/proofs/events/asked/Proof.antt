@@ -1,9 +1,10 @@
--- `replay::events::asked` meets its contract: what the call answers is what its event prints. Assumes nothing.
+-- `replay::events::asked` meets its contract: what the call answers is what its event prints.
 use borrow.Author.Needs.{needs}
 use mathlib.Core.Path.{refl}
 use native.Mathlib.Omega.{arith}
-use Rattle.replay.specs.Event as event
-use Rattle.replay.specs.Event.{performed, successText}
+use Rattle.sizes.specs.Sizes.{answerRoom}
+use Rattle.tag.specs.Calls as tag
+use Rattle.replay.specs.Event.{asks, performed, successText}
 use Rattle.notation.specs.Text.{ascii}
 use Rattle.replay.proofs.Performed.{answers-within, performs-answered}
 use Rattle.replay.proofs.events.asked.Statement.{statement}
@@ -27,7 +28,7 @@ slice-aggregate-answered-2 c = search needs
 answered-requires : tie.Need-answered-requires
 answered-requires c κs =
     let called = c .before .before .before .before .read in
-    (omega arith, (omega arith, (answers-within 42 (called .ensures) (omega arith), omega arith)))
+    (omega arith, (omega arith, (answers-within answerRoom (called .ensures) (omega arith), omega arith)))
 
 enum-told-2 : tie.Need-enum-told-2
 enum-told-2 c = search needs
@@ -47,7 +48,7 @@ slice-aggregate-answered-4 c = search needs
 answered-requires-2 : tie.Need-answered-requires-2
 answered-requires-2 c κs =
     let called = c .before .before .before .before .write in
-    (omega arith, (omega arith, (answers-within 42 (called .ensures) (omega arith), omega arith)))
+    (omega arith, (omega arith, (answers-within answerRoom (called .ensures) (omega arith), omega arith)))
 
 enum-told-3 : tie.Need-enum-told-3
 enum-told-3 c = search needs
@@ -67,7 +68,7 @@ slice-aggregate-answered-6 c = search needs
 answered-requires-3 : tie.Need-answered-requires-3
 answered-requires-3 c κs =
     let called = c .before .before .before .before .button in
-    (omega arith, (omega arith, (answers-within 42 (called .ensures) (omega arith), omega arith)))
+    (omega arith, (omega arith, (answers-within answerRoom (called .ensures) (omega arith), omega arith)))
 
 enum-told-4 : tie.Need-enum-told-4
 enum-told-4 c = search needs
@@ -87,7 +88,7 @@ slice-aggregate-answered-8 c = search needs
 answered-requires-4 : tie.Need-answered-requires-4
 answered-requires-4 c κs =
     let called = c .before .before .before .before .advertise in
-    (omega arith, (omega arith, (answers-within 42 (called .ensures) (omega arith), omega arith)))
+    (omega arith, (omega arith, (answers-within answerRoom (called .ensures) (omega arith), omega arith)))
 
 same-length : tie.Need-same-length
 same-length c = search needs
@@ -97,7 +98,7 @@ unfolding performed successText
 returns c =
     let known = c .before .before .before .before .before .before .before .before .before .before .before .before .before .args in
     rw (c .before .before .before .before .before .before .before .before .before .enum-told .given .1)
-    (performs-answered (event.read (known .bytes .now)) (known .u) (ascii "answer=read\n") (omega arith) (λ o a. refl) (c .before .before .before .before .before .before .before .read .ensures) (omega arith) (c .before .before .answered .ensures))
+    (performs-answered (asks (tag.read (known .bytes .now))) (known .u) (ascii "answer=read\n") (omega arith) (λ o a. refl) (c .before .before .before .before .before .before .before .read .ensures) (omega arith) (c .before .before .answered .ensures))
 
 same-length-2 : tie.Need-same-length-2
 same-length-2 c = search needs
@@ -107,7 +108,7 @@ unfolding performed successText
 returns-2 c =
     let known = c .before .before .before .before .before .before .before .before .before .before .before .before .before .args in
     rw (c .before .before .before .before .before .before .before .before .before .enum-told2 .given .1)
-    (performs-answered (event.write (known .bytes .now)) (known .u) (ascii "answer=write\n") (omega arith) (λ o a. refl) (c .before .before .before .before .before .before .before .write .ensures) (omega arith) (c .before .before .answered2 .ensures))
+    (performs-answered (asks (tag.write (record { bytes = known .bytes .now }))) (known .u) (ascii "answer=write\n") (omega arith) (λ o a. refl) (c .before .before .before .before .before .before .before .write .ensures) (omega arith) (c .before .before .answered2 .ensures))
 
 same-length-3 : tie.Need-same-length-3
 same-length-3 c = search needs
@@ -117,7 +118,7 @@ unfolding performed successText
 returns-3 c =
     let known = c .before .before .before .before .before .before .before .before .before .before .before .before .before .args in
     rw (c .before .before .before .before .before .before .before .before .before .enum-told3 .given .1)
-    (performs-answered event.button (known .u) (ascii "answer=button\n") (omega arith) (λ o a. refl) (c .before .before .before .before .before .before .before .button .ensures) (omega arith) (c .before .before .answered3 .ensures))
+    (performs-answered (asks tag.button) (known .u) (ascii "answer=button\n") (omega arith) (λ o a. refl) (c .before .before .before .before .before .before .before .button .ensures) (omega arith) (c .before .before .answered3 .ensures))
 
 same-length-4 : tie.Need-same-length-4
 same-length-4 c = search needs
@@ -127,7 +128,7 @@ unfolding performed successText
 returns-4 c =
     let known = c .before .before .before .before .before .before .before .before .before .before .before .before .before .args in
     rw (c .before .before .before .before .before .before .before .before .before .enum-told4 .given .1)
-    (performs-answered event.frame (known .u) (ascii "answer=frame\n") (omega arith) (λ o a. refl) (c .before .before .before .before .before .before .before .advertise .ensures) (omega arith) (c .before .before .answered4 .ensures))
+    (performs-answered (asks tag.frame) (known .u) (ascii "answer=frame\n") (omega arith) (λ o a. refl) (c .before .before .before .before .before .before .before .advertise .ensures) (omega arith) (c .before .before .answered4 .ensures))
 
 pub asked-spec : {M : Type 1} → statement M
 asked-spec =

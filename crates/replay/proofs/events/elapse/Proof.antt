@@ -1,8 +1,9 @@
--- `replay::events::elapse` meets its contract: the notes and the clock are those of the call. Assumes nothing.
+-- `replay::events::elapse` meets its contract: the notes and the clock are those of the call.
 use Prim.Native.Nat.{_+_, _≤_}
 use borrow.Author.Needs.{needs}
 use lib.ListN.{length}
 use native.Mathlib.Omega.{arith}
+use Rattle.sizes.specs.Sizes.{answerRoom}
 use Rattle.replay.specs.Event.{performed}
 use Rattle.replay.proofs.Performed.{answers-within, performs-passed}
 use Rattle.replay.proofs.events.elapse.Statement.{statement}
@@ -21,7 +22,7 @@ passed-requires : tie.Need-passed-requires
 passed-requires c κs =
     let called = c .before .before .before .elapsed in
     let room : c .before .before .before .before .before .before .args .at + 256 ≤ length (c .before .before .before .before .before .before .args .out .now) = c .before .before .before .before .before .before .pre in
-    (omega arith, (answers-within 42 (called .ensures .answers) (omega arith), room))
+    (omega arith, (answers-within answerRoom (called .ensures .answers) (omega arith), room))
 
 same-length : tie.Need-same-length
 same-length c = search needs

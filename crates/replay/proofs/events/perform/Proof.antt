@@ -1,4 +1,4 @@
--- `replay::events::perform` meets its contract, a kind of event each. Assumes nothing.
+-- `replay::events::perform` meets its contract, a kind of event each.
 use borrow.Author.Needs.{needs}
 use Rattle.replay.proofs.events.perform.Statement.{statement}
 use Rattle.replay.proofs.events.perform.Tie as tie

@@ -1,10 +1,12 @@
--- `replay::events::set` meets its contract: the end of the call is what its event prints. Assumes nothing.
+-- `replay::events::set` meets its contract: the end of the call is what its event prints.
 use borrow.Author.Needs.{needs}
 use mathlib.Core.Path.{refl}
 use native.Mathlib.Omega.{arith}
-use Rattle.replay.specs.Event as event
-use Rattle.replay.specs.Event.{performed, successText}
+use Rattle.sizes.specs.Sizes.{answerRoom}
+use Rattle.tag.specs.Calls as tag
+use Rattle.replay.specs.Event.{asks, performed, successText}
 use Rattle.notation.specs.Text.{ascii}
+use Rattle.replay.proofs.Quiet.{call-quiet}
 use Rattle.replay.proofs.Performed.{performs-settled}
 use Rattle.replay.proofs.events.set.Statement.{statement}
 use Rattle.replay.proofs.events.set.Tie as tie
@@ -61,41 +63,41 @@ same-length : tie.Need-same-length
 same-length c = search needs
 
 returns : tie.Need-returns
-unfolding performed successText
+unfolding performed successText tag.call tag.own tag.guarded
 returns c =
     let known = c .before .before .before .before .before .before .before .before .before .before .before .before .args in
     rw (c .before .before .before .before .before .before .before .what .given .1)
-    (performs-settled (event.pairing (c .before .before .before .before .before .before .before .what .given .0 .0)) (known .u) (ascii "answer=pairing\n") (omega arith) (λ o a. refl) (c .before .before .before .before .before .pairing .ensures) (c .before .before .settled .ensures))
+    (performs-settled (asks (tag.pairing (c .before .before .before .before .before .before .before .what .given .0 .0))) (known .u) (ascii "answer=pairing\n") (omega arith) (λ o. refl) (call-quiet (tag.pairing (c .before .before .before .before .before .before .before .what .given .0 .0)) answerRoom (known .u) refl) (c .before .before .before .before .before .pairing .ensures) (c .before .before .settled .ensures))
 
 same-length-2 : tie.Need-same-length-2
 same-length-2 c = search needs
 
 returns-2 : tie.Need-returns-2
-unfolding performed successText
+unfolding performed successText tag.call tag.own tag.guarded
 returns-2 c =
     let known = c .before .before .before .before .before .before .before .before .before .before .before .args in
     rw (c .before .before .before .before .before .before .enum-told .given .1)
-    (performs-settled (event.battery (known .level)) (known .u) (ascii "answer=battery\n") (omega arith) (λ o a. refl) (c .before .before .before .before .before .battery .ensures) (c .before .before .settled2 .ensures))
+    (performs-settled (asks (tag.battery (known .level))) (known .u) (ascii "answer=battery\n") (omega arith) (λ o. refl) (call-quiet (tag.battery (known .level)) answerRoom (known .u) refl) (c .before .before .before .before .before .battery .ensures) (c .before .before .settled2 .ensures))
 
 same-length-3 : tie.Need-same-length-3
 same-length-3 c = search needs
 
 returns-3 : tie.Need-returns-3
-unfolding performed successText
+unfolding performed successText tag.call tag.own tag.guarded
 returns-3 c =
     let known = c .before .before .before .before .before .before .before .before .before .before .before .args in
     rw (c .before .before .before .before .before .before .enum-told2 .given .1)
-    (performs-settled (event.key (known .bytes .now)) (known .u) (ascii "answer=key\n") (omega arith) (λ o a. refl) (c .before .before .before .before .before .account-key .ensures) (c .before .before .settled3 .ensures))
+    (performs-settled (asks (tag.accountKey (known .bytes .now))) (known .u) (ascii "answer=key\n") (omega arith) (λ o. refl) (call-quiet (tag.accountKey (known .bytes .now)) answerRoom (known .u) refl) (c .before .before .before .before .before .account-key .ensures) (c .before .before .settled3 .ensures))
 
 same-length-4 : tie.Need-same-length-4
 same-length-4 c = search needs
 
 returns-4 : tie.Need-returns-4
-unfolding performed successText
+unfolding performed successText tag.call tag.own tag.guarded
 returns-4 c =
     let known = c .before .before .before .before .before .before .before .before .before .before .before .args in
     rw (c .before .before .before .before .before .before .enum-told3 .given .1)
-    (performs-settled (event.identifier (known .r .now) (known .bytes .now)) (known .u) (ascii "answer=identifier\n") (omega arith) (λ o a. refl) (c .before .before .before .before .before .lend-identifier .ensures) (c .before .before .settled4 .ensures))
+    (performs-settled (asks (tag.identifier (known .r .now) (known .bytes .now))) (known .u) (ascii "answer=identifier\n") (omega arith) (λ o. refl) (call-quiet (tag.identifier (known .r .now) (known .bytes .now)) answerRoom (known .u) refl) (c .before .before .before .before .before .lend-identifier .ensures) (c .before .before .settled4 .ensures))
 
 pub set-spec : {M : Type 1} → statement M
 set-spec =

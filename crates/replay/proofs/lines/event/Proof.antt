@@ -1,4 +1,4 @@
--- `replay::lines::event` meets its contract: the name behind the key decides. Assumes nothing.
+-- `replay::lines::event` meets its contract: the name behind the key decides.
 use borrow.Author.Needs.{needs}
 use mathlib.Core.Path.{_∙_}
 use Rattle.replay.specs.Replay.{taken, named}

@@ -1,4 +1,4 @@
--- `replay::lines::number` meets its contract: the number behind the key, or a line that breaks the order. Assumes nothing.
+-- `replay::lines::number` meets its contract: the number behind the key, or a line that breaks the order.
 use borrow.Author.Needs.{needs}
 use borrow.Author.Tests.{not-true, not-false}
 use mathlib.Core.List.{[]}

@@ -1,4 +1,4 @@
--- `replay::lines::octets` meets its contract: the bytes behind the key, or a line that breaks the order. Assumes nothing.
+-- `replay::lines::octets` meets its contract: the bytes behind the key, or a line that breaks the order.
 use Prim.Native.Nat.{_-_}
 use borrow.Author.Needs.{needs}
 use borrow.Author.Tests.{not-true, not-false}

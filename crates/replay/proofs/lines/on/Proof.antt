@@ -1,9 +1,10 @@
--- `replay::lines::on` meets its contract: the value behind the key, or a line that breaks the order. Assumes nothing.
+-- `replay::lines::on` meets its contract: the value behind the key, or a line that breaks the order.
 use borrow.Author.Needs.{needs}
 use borrow.Author.Tests.{not-true, not-false}
-use Rattle.replay.specs.Event.{pairing}
+use Rattle.tag.specs.Calls.{pairing}
+use Rattle.replay.specs.Event.{asks}
 use Rattle.notation.specs.Reading.{flag}
-use Rattle.replay.specs.Replay.{taken, given, brings}
+use Rattle.replay.specs.Replay.{held, given, brings}
 use Rattle.notation.specs.Text.{ascii}
 use Rattle.notation.specs.Values.{switchOf}
 use Rattle.replay.proofs.Behind.{key-fits, unkeyed-line, value-line}
@@ -17,8 +18,8 @@ begins-requires : tie.Need-begins-requires
 begins-requires c κs = search needs
 
 returns : tie.Need-returns
-unfolding taken
-returns c = record { lineIs = λ p n k m b. unkeyed-line (ascii "on=") (c .before .before .before .before .args .line .now) (c .before .begins .ensures) (λ v. given (flag v) (λ x. brings (pairing x))) (not-true _ (c .if1 .taken)) }
+unfolding held
+returns c = record { lineIs = λ p n k m b. unkeyed-line (ascii "on=") (c .before .before .before .before .args .line .now) (c .before .begins .ensures) (λ v. given (flag v) (λ x. brings (asks (pairing x)))) (not-true _ (c .if1 .taken)) }
 
 sub-flag : tie.Need-sub-flag
 sub-flag c = key-fits (ascii "on=") (c .before .before .before .before .args .line .now) (c .before .begins .ensures) (not-false _ (c .if1 .left))
@@ -39,12 +40,12 @@ enum-told : tie.Need-enum-told
 enum-told c = search needs
 
 returns-2 : tie.Need-returns-2
-unfolding taken
-returns-2 c = record { lineIs = λ p n k m b. value-line (ascii "on=") (c .before .before .before .before .before .before .before .before .before .args .line .now) (c .before .before .before .before .before .before .begins .ensures) switchOf flag (λ x. brings (pairing x)) (not-false _ (c .before .before .before .before .before .if1 .left)) (c .before .before .before .flag .ensures) (c .before .on .given .1) }
+unfolding held
+returns-2 c = record { lineIs = λ p n k m b. value-line (ascii "on=") (c .before .before .before .before .before .before .before .before .before .args .line .now) (c .before .before .before .before .before .before .begins .ensures) switchOf flag (λ x. brings (asks (pairing x))) (not-false _ (c .before .before .before .before .before .if1 .left)) (c .before .before .before .flag .ensures) (c .before .on .given .1) }
 
 returns-3 : tie.Need-returns-3
-unfolding taken
-returns-3 c = record { lineIs = λ p n k m b. value-line (ascii "on=") (c .before .before .before .before .before .before .before .before .args .line .now) (c .before .before .before .before .before .begins .ensures) switchOf flag (λ x. brings (pairing x)) (not-false _ (c .before .before .before .before .if1 .left)) (c .before .before .flag .ensures) (c .enum-told .given .1) }
+unfolding held
+returns-3 c = record { lineIs = λ p n k m b. value-line (ascii "on=") (c .before .before .before .before .before .before .before .before .args .line .now) (c .before .before .before .before .before .begins .ensures) switchOf flag (λ x. brings (asks (pairing x))) (not-false _ (c .before .before .before .before .if1 .left)) (c .before .before .flag .ensures) (c .enum-told .given .1) }
 
 pub on-spec : {M : Type 1} → statement M
 on-spec =

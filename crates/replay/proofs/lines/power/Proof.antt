@@ -1,11 +1,11 @@
--- `replay::lines::power` meets its contract: the value behind the key, or a line that breaks the order. Assumes nothing.
+-- `replay::lines::power` meets its contract: the value behind the key, or a line that breaks the order.
 use borrow.Author.Needs.{needs}
 use borrow.Author.Tests.{not-true, not-false}
 use mathlib.Core.Path.{_≡_, ap, _∙_}
 use mir.Syntax.{w32}
 use mir.Val.{toZ, ofZ}
 use Rattle.notation.specs.Reading.{signed}
-use Rattle.replay.specs.Replay.{taken, given, follows, components}
+use Rattle.replay.specs.Replay.{held, given, follows, components}
 use Rattle.notation.specs.Text.{ascii}
 use Rattle.notation.specs.Values.{signedNumeralOf}
 use Rattle.replay.proofs.Behind.{key-fits, unkeyed-line, value-line}
@@ -19,7 +19,7 @@ begins-requires : tie.Need-begins-requires
 begins-requires c κs = search needs
 
 returns : tie.Need-returns
-unfolding taken
+unfolding held
 returns c = record { lineIs = λ p n k m b. unkeyed-line (ascii "power=") (c .before .before .before .before .args .line .now) (c .before .begins .ensures) (λ v. given (signed v) (λ x. follows (components x))) (not-true _ (c .if1 .taken)) }
 
 sub-signed : tie.Need-sub-signed
@@ -41,13 +41,13 @@ enum-told : tie.Need-enum-told
 enum-told c = search needs
 
 returns-2 : tie.Need-returns-2
-unfolding taken
+unfolding held
 returns-2 c =
     let kept : toZ w32 (ofZ w32 (c .before .p .given .0 .0)) ≡ c .before .p .given .0 .0 = search needs in
     record { lineIs = λ p n k m b. ap (λ (z : _). follows (components z)) kept ∙ value-line (ascii "power=") (c .before .before .before .before .before .before .before .before .before .args .line .now) (c .before .before .before .before .before .before .begins .ensures) signedNumeralOf signed (λ x. follows (components x)) (not-false _ (c .before .before .before .before .before .if1 .left)) (c .before .before .before .signed .ensures) (c .before .p .given .1) }
 
 returns-3 : tie.Need-returns-3
-unfolding taken
+unfolding held
 returns-3 c = record { lineIs = λ p n k m b. value-line (ascii "power=") (c .before .before .before .before .before .before .before .before .args .line .now) (c .before .before .before .before .before .begins .ensures) signedNumeralOf signed (λ x. follows (components x)) (not-false _ (c .before .before .before .before .if1 .left)) (c .before .before .signed .ensures) (c .enum-told .given .1) }
 
 pub power-spec : {M : Type 1} → statement M

@@ -1,8 +1,9 @@
--- `tag::identifier::lent` meets its contract: what led to each return decides the definition. Assumes nothing.
-use Rattle.tag.proofs.Guards.{where-true, where-false, refused-settles, done-settles}
+-- `tag::identifier::lent` meets its contract: what led to each return decides the definition.
+use Rattle.unit.proofs.Ends.{refused-settles, done-settles}
 use borrow.Author.Tests.{eq-eqb, ne-eqb}
-use Rattle.tag.specs.Calls.{lending}
-use Rattle.tag.proofs.Guards.{refused-settles, done-settles}
+use Rattle.tag.specs.Own.{lending}
+use Rattle.sizes.specs.Sizes.{identifierSize}
+use Rattle.tag.proofs.Guards.{where-true, where-false}
 use borrow.Author.Needs.{needs}
 use Rattle.tag.proofs.identifier.lent.Statement.{statement}
 use Rattle.tag.proofs.identifier.lent.Tie as tie
@@ -12,17 +13,22 @@ refuse-requires c κs = search needs
 
 returns : tie.Need-returns
 unfolding lending
-returns c = rw (ne-eqb _ 20 (c .before .if1 .taken)) (refused-settles (c .refuse .ensures))
+returns c =
+    let if1-at = c .before in
+    rw (ne-eqb _ identifierSize (if1-at .if1 .taken)) (refused-settles (c .refuse .ensures))
 
 refuse-requires-2 : tie.Need-refuse-requires-2
 refuse-requires-2 c κs = search needs
 
 returns-2 : tie.Need-returns-2
 unfolding lending
-returns-2 c = rw (eq-eqb _ 20 (c .before .before .if1 .left), ne-eqb _ 20 (c .before .if2 .taken)) (refused-settles (c .refuse2 .ensures))
+returns-2 c =
+    let if2-at = c .before in
+    let if1-at = if2-at .before in
+    rw (eq-eqb _ identifierSize (if1-at .if1 .left), ne-eqb _ identifierSize (if2-at .if2 .taken)) (refused-settles (c .refuse2 .ensures))
 
-mul-window : tie.Need-mul-window
-mul-window c = search needs
+window-of-requires : tie.Need-window-of-requires
+window-of-requires c κs = search needs
 
 twenty-requires : tie.Need-twenty-requires
 twenty-requires c κs = search needs
@@ -36,10 +42,14 @@ accept-requires c κs = search needs
 returns-3 : tie.Need-returns-3
 unfolding lending
 returns-3 c =
-    let keyed = c .before .before .before .before in
-    let sized = keyed .before .before in
-    rw (eq-eqb _ 20 (sized .before .if1 .left), eq-eqb _ 20 (sized .if2 .left), where-true _ _ _ (keyed .if3 .taken))
-    (done-settles (rw (c .before .before .twenty .ensures, c .before .twenty2 .ensures) at (c .accept .ensures)))
+    let twenty2-at = c .before in
+    let twenty-at = twenty2-at .before in
+    let window-of-at = twenty-at .before in
+    let if3-at = window-of-at .before in
+    let if2-at = if3-at .before .before in
+    let if1-at = if2-at .before in
+    rw (eq-eqb _ identifierSize (if1-at .if1 .left), eq-eqb _ identifierSize (if2-at .if2 .left), where-true _ _ _ (if3-at .if3 .taken))
+    (done-settles (rw (window-of-at .window-of .ensures, twenty-at .twenty .ensures, twenty2-at .twenty2 .ensures) at (c .accept .ensures)))
 
 refuse-requires-3 : tie.Need-refuse-requires-3
 refuse-requires-3 c κs = search needs
@@ -47,8 +57,10 @@ refuse-requires-3 c κs = search needs
 returns-4 : tie.Need-returns-4
 unfolding lending
 returns-4 c =
-    let sized = c .before .before .before in
-    rw (eq-eqb _ 20 (sized .before .if1 .left), eq-eqb _ 20 (sized .if2 .left), where-false _ _ _ (c .before .if3 .left))
+    let if3-at = c .before in
+    let if2-at = if3-at .before .before in
+    let if1-at = if2-at .before in
+    rw (eq-eqb _ identifierSize (if1-at .if1 .left), eq-eqb _ identifierSize (if2-at .if2 .left), where-false _ _ _ (if3-at .if3 .left))
     (refused-settles (c .refuse3 .ensures))
 
 pub lent-spec : {M : Type 1} → statement M
@@ -59,7 +71,7 @@ lent-spec =
     returns
     refuse-requires-2
     returns-2
-    mul-window
+    window-of-requires
     twenty-requires
     twenty-requires-2
     accept-requires

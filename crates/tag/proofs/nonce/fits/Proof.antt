@@ -1,6 +1,6 @@
--- `tag::nonce::fits` meets its contract: what led to each return decides the definition. Assumes nothing.
+-- `tag::nonce::fits` meets its contract: what led to each return decides the definition.
 use borrow.Author.Tests.{eq-eqb, ne-eqb}
-use Rattle.tag.specs.Calls.{nonceFits}
+use Rattle.tag.specs.Own.{nonceFits}
 use borrow.Author.Needs.{needs}
 use Rattle.tag.proofs.nonce.fits.Statement.{statement}
 use Rattle.tag.proofs.nonce.fits.Tie as tie

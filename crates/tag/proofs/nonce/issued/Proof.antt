@@ -1,4 +1,4 @@
--- `tag::nonce::issued` meets its contract: a nonce that fits is written behind the version, and any other is refused. Assumes nothing.
+-- `tag::nonce::issued` meets its contract: a nonce that fits is written behind the version, and any other is refused.
 use Prim.Native.Nat.{ℕ, suc}
 use mathlib.Core.Path.{_≡_, refl, sym, ap, _∙_}
 use mathlib.Core.Bool.{true}
@@ -9,22 +9,26 @@ use lib.ListN.{length}
 use borrow.Author.Tests.{eqb-true}
 use Rattle.laws.proofs.Flags.{and-left}
 use Rattle.laws.proofs.Copied.{copied-next}
+use Rattle.sizes.specs.Sizes.{nonceSize}
 use Rattle.unit.specs.declared.TagUnit.{TagUnit}
-use Rattle.tag.specs.Calls.{nonceFits, issuing}
-use Rattle.tag.proofs.Guards.{refused-answers, done-answers}
+use Rattle.tag.specs.Own.{nonceFits, issuing}
+use Rattle.unit.proofs.Ends.{refused-answers, done-answers}
 use borrow.Author.Needs.{needs}
 use Rattle.tag.proofs.nonce.issued.Statement.{statement}
 use Rattle.tag.proofs.nonce.issued.Tie as tie
 
-fits-eight : (u : TagUnit) (nonce : List ℕ) → nonceFits u nonce ≡ true → length nonce ≡ 8
+fits-eight : (u : TagUnit) (nonce : List ℕ) → nonceFits u nonce ≡ true → length nonce ≡ nonceSize
 unfolding nonceFits
-fits-eight u nonce h = eqb-true _ 8 (and-left (eqb (length nonce) 8) _ h)
+fits-eight u nonce h = eqb-true _ nonceSize (and-left (eqb (length nonce) nonceSize) _ h)
 
 fits-requires : tie.Need-fits-requires
 fits-requires c κs = search needs
 
 eight-requires : tie.Need-eight-requires
-eight-requires c κs = fits-eight _ _ (sym (c .before .fits2 .ensures) ∙ c .if1 .taken)
+eight-requires c κs =
+    let if1-at = c in
+    let fits2-at = if1-at .before in
+    fits-eight _ _ (sym (fits2-at .fits2 .ensures) ∙ if1-at .if1 .taken)
 
 slice-aggregate-put : tie.Need-slice-aggregate-put
 slice-aggregate-put c = search needs
@@ -34,8 +38,12 @@ put-requires c κs = search needs
 
 put-requires-2 : tie.Need-put-requires-2
 put-requires-2 c κs =
-    let test = c .before .before .before .before .before .before .before in
-    omega (arith, fits-eight _ _ (sym (test .before .fits2 .ensures) ∙ test .if1 .taken))
+    let if1-at = c .before .before .before .before .before .before .before in
+    let fits2-at = if1-at .before in
+    omega (arith, fits-eight _ _ (sym (fits2-at .fits2 .ensures) ∙ if1-at .if1 .taken))
+
+add-accept : tie.Need-add-accept
+add-accept c = search needs
 
 accept-requires : tie.Need-accept-requires
 accept-requires c κs = search needs
@@ -46,22 +54,27 @@ same-length c = search needs
 returns : tie.Need-returns
 unfolding issuing
 returns c =
-    let put = c .before .before .before in
-    let test = put .before .before .before .before .before .before .before .before in
-    let start = test .before .before .before .before in
-    let fits = sym (test .before .fits2 .ensures) ∙ test .if1 .taken in
-    let eight = fits-eight _ _ fits in
-    let first = copied-next (start .args .answer .now) [] (1 ∷ []) _ _ 0 refl refl (put .before .before .before .before .put .ensures) in
-    let all = copied-next (start .args .answer .now) (1 ∷ []) (start .args .lent .now) _ _ 1 refl first (put .put2 .ensures) in
-    rw fits
-    (done-answers (rw (put .before .before .before .before .before .before .before .eight .ensures) at (c .accept .ensures)) (ap suc (sym eight)) (rw eight at all))
+    let put2-at = c .before .before .before in
+    let put-at = put2-at .before .before .before .before in
+    let eight-at = put-at .before .before .before in
+    let if1-at = eight-at .before in
+    let fits2-at = if1-at .before in
+    let start = fits2-at .before .before .before in
+    let fits = sym (fits2-at .fits2 .ensures) ∙ if1-at .if1 .taken in
+    let sized = fits-eight _ _ fits in
+    let version = copied-next (start .args .answer .now) [] (1 ∷ []) _ _ 0 refl refl (put-at .put .ensures) in
+    let all = copied-next (start .args .answer .now) (1 ∷ []) (start .args .lent .now) _ _ 1 refl version (put2-at .put2 .ensures) in
+    rw fits (done-answers (rw (eight-at .eight .ensures) at (c .accept .ensures)) (ap suc (sym sized)) (rw sized at all))
 
 refuse-requires : tie.Need-refuse-requires
 refuse-requires c κs = search needs
 
 returns-2 : tie.Need-returns-2
 unfolding issuing
-returns-2 c = rw (sym (c .before .before .fits2 .ensures) ∙ c .before .if1 .left) (refused-answers _ (c .refuse .ensures))
+returns-2 c =
+    let if1-at = c .before in
+    let fits2-at = if1-at .before in
+    rw (sym (fits2-at .fits2 .ensures) ∙ if1-at .if1 .left) (refused-answers _ (c .refuse .ensures))
 
 pub issued-spec : {M : Type 1} → statement M
 issued-spec =
@@ -72,6 +85,7 @@ issued-spec =
     slice-aggregate-put
     put-requires
     put-requires-2
+    add-accept
     accept-requires
     same-length
     returns

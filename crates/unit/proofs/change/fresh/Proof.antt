@@ -1,4 +1,4 @@
--- `unit::change::fresh` meets its contract: the record is the definition's, field by field. Assumes nothing.
+-- `unit::change::fresh` meets its contract: the record is the definition's, field by field.
 use borrow.Author.Needs.{needs}
 use Rattle.unit.proofs.change.fresh.Statement.{statement}
 use Rattle.unit.proofs.change.fresh.Tie as tie

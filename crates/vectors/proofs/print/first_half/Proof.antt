@@ -1,4 +1,4 @@
--- `vectors::print::first_half` is safe: the first sixteen bytes are there where it lends them. Assumes nothing.
+-- `vectors::print::first_half` is safe: the first sixteen bytes are there where it lends them.
 use mathlib.Core.Path.{sym}
 use borrow.Author.Needs.{needs}
 use lib.Seq.{length-take-le}

@@ -1,4 +1,4 @@
--- `vectors::print::hex` is safe and ends: the measure is what is left of the bytes. Assumes nothing.
+-- `vectors::print::hex` is safe and ends: the measure is what is left of the bytes.
 use Prim.Native.Nat.{_≤_, _-_}
 use native.Mathlib.Omega.{arith}
 use borrow.Author.Needs.{needs}

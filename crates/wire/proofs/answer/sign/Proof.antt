@@ -1,4 +1,4 @@
--- `answer::sign` meets its contract: ID and length, tag and data are put one after the other. Assumes nothing.
+-- `answer::sign` meets its contract: ID and length, tag and data are put one after the other.
 use mathlib.Core.Path.{_≡_, refl, ap, _∙_}
 use mathlib.Core.List.{List, [], _∷_, _++_}
 use Prim.Native.Nat.{ℕ, _+_}
@@ -6,7 +6,8 @@ use native.Mathlib.Omega.{arith}
 use denote.Ref.{now}
 use lib.ListN.{length}
 use Rattle.laws.specs.Answer.{gives, lentAfter}
-use Rattle.wire.specs.Signing.{tagBytes, signed}
+use Rattle.sizes.specs.Sizes.{tagSize}
+use Rattle.wire.specs.Signing.{signed}
 use Rattle.wire.proofs.Laws.{length-signed}
 use Rattle.wire.proofs.Written.{written}
 use borrow.Author.Needs.{needs}
@@ -53,9 +54,9 @@ returns c =
       countIs = omega (arith, length-signed (now (a .key)) (a .nonce) (a .id) (now (a .«data»)));
       bytesAre =
           written (now (a .answer)) (c .before .before .before .before .before .before .before .before .before .before .before .put .last .0) (c .before .before .before .before .before .before .put2 .last .0) (c .before .before .put3 .last .0)
-          (a .id ∷ (tagBytes + length (now (a .«data»))) ∷ []) (tag .result) (now (a .«data»)) refl n
+          (a .id ∷ (tagSize + length (now (a .«data»))) ∷ []) (tag .result) (now (a .«data»)) refl n
           (c .before .before .before .before .before .before .before .before .before .before .before .put .ensures) (c .before .before .before .before .before .before .put2 .ensures) (c .before .before .put3 .ensures)
-          ∙ ap (λ (t : List ℕ). lentAfter (gives (a .id ∷ (tagBytes + length (now (a .«data»))) ∷ t ++ now (a .«data»))) (now (a .answer))) (tag .ensures);
+          ∙ ap (λ (t : List ℕ). lentAfter (gives (a .id ∷ (tagSize + length (now (a .«data»))) ∷ t ++ now (a .«data»))) (now (a .answer))) (tag .ensures);
     }
 
 pub sign-spec : {M : Type 1} → statement M

@@ -1,4 +1,4 @@
--- `blocks::decrypted_key` meets its contract: the blocks one by one. Assumes nothing.
+-- `blocks::decrypted_key` meets its contract: the blocks one by one.
 use Rattle.wire.specs.KeyBlocks.{decryptedKey}
 use borrow.Author.Needs.{needs}
 use Rattle.wire.proofs.blocks.decrypted_key.Statement.{statement}

@@ -1,4 +1,4 @@
--- `blocks::encrypted_key` meets its contract: the blocks one by one. Assumes nothing.
+-- `blocks::encrypted_key` meets its contract: the blocks one by one.
 use Rattle.wire.specs.KeyBlocks.{encryptedKey}
 use borrow.Author.Needs.{needs}
 use Rattle.wire.proofs.blocks.encrypted_key.Statement.{statement}

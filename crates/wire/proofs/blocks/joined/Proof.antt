@@ -1,4 +1,4 @@
--- `blocks::joined` meets its contract: the second block is put right after the first. Assumes nothing.
+-- `blocks::joined` meets its contract: the second block is put right after the first.
 use mathlib.Core.Path.{_≡_, refl, _∙_}
 use mathlib.Core.List.{[], _++_}
 use Prim.Native.Nat.{_+_}

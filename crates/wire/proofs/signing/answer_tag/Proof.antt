@@ -1,4 +1,4 @@
--- `signing::answer_tag` meets its contract: the first bytes of the code over the covered bytes, the data and 0x01. Assumes nothing.
+-- `signing::answer_tag` meets its contract: the first bytes of the code over the covered bytes, the data and 0x01.
 use mathlib.Core.Path.{ap, _∙_}
 use lib.ListN.{length, take}
 use mathlib.Core.List.{[], _∷_, _++_}
@@ -6,7 +6,8 @@ use Prim.Native.Nat.{_+_}
 use denote.Ref.{now}
 use Rattle.primitives.specs.Standards.{HMAC}
 use Rattle.wire.proofs.Tagged.{covered-then}
-use Rattle.wire.specs.Signing.{tagBytes, answerTag}
+use Rattle.sizes.specs.Sizes.{tagSize}
+use Rattle.wire.specs.Signing.{answerTag}
 use borrow.Author.Needs.{needs}
 use Rattle.wire.proofs.signing.answer_tag.Statement.{statement}
 use Rattle.wire.proofs.signing.answer_tag.Tie as tie
@@ -29,18 +30,18 @@ slice-aggregate-mac-2 c = search needs
 mac-requires : tie.Need-mac-requires
 mac-requires c κs = search needs
 
-first-eight-requires : tie.Need-first-eight-requires
-first-eight-requires c κs = search needs
+first-bytes-requires : tie.Need-first-bytes-requires
+first-bytes-requires c κs = search needs
 
 returns : tie.Need-returns
 unfolding answerTag
 returns c =
     let a = c .before .before .before .before .before .before .before .args in
-    c .first-eight .ensures
-    ∙ ap (take tagBytes)
+    c .first-bytes .ensures
+    ∙ ap (take tagSize)
     (c .before .mac .ensures
     ∙ ap (HMAC (now (a .key)))
-    (covered-then (a .nonce) (a .id) (tagBytes + length (now (a .«data»))) (c .before .before .before .before .covered .result) (now (a .«data») ++ (0x01 ∷ [])) (c .before .before .before .before .covered .ensures)))
+    (covered-then (a .nonce) (a .id) (tagSize + length (now (a .«data»))) (c .before .before .before .before .covered .result) (now (a .«data») ++ (0x01 ∷ [])) (c .before .before .before .before .covered .ensures)))
 
 pub answer-tag-spec : {M : Type 1} → statement M
 answer-tag-spec =
@@ -52,5 +53,5 @@ answer-tag-spec =
     slice-aggregate-mac
     slice-aggregate-mac-2
     mac-requires
-    first-eight-requires
+    first-bytes-requires
     returns)

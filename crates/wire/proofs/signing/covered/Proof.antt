@@ -1,55 +1,53 @@
--- `signing::covered` meets its contract: the nonce is its eight elements, written out. Assumes nothing.
-use mathlib.Core.Path.{_≡_, sym, ap}
+-- `signing::covered` meets its contract: the nonce is put right after the version, then ID and length over all that is left.
+use mathlib.Core.Path.{_≡_, refl, ap, _∙_}
 use mathlib.Core.List.{List, [], _∷_, _++_}
-use Prim.Native.Nat.{ℕ}
-use lib.ListN.{length}
-use Rattle.laws.specs.Bytes.{tabulate}
-use Rattle.laws.proofs.Elements.{all-elements}
+use Prim.Native.Nat.{ℕ, _+_}
+use native.Mathlib.Omega.{arith}
+use lib.ListN.{length, drop, replicate}
+use Rattle.laws.proofs.Copied.{copied-next, nothing-left}
 use Rattle.wire.specs.Signing.{version}
 use borrow.Author.Needs.{needs}
 use Rattle.wire.proofs.signing.covered.Statement.{statement}
 use Rattle.wire.proofs.signing.covered.Tie as tie
 
-array-read-t7 : tie.Need-array-read-t7
-array-read-t7 c = search needs
+slice-aggregate-put : tie.Need-slice-aggregate-put
+slice-aggregate-put c = search needs
 
-array-read-t10 : tie.Need-array-read-t10
-array-read-t10 c = search needs
+slice-aggregate-put-2 : tie.Need-slice-aggregate-put-2
+slice-aggregate-put-2 c = search needs
 
-array-read-t13 : tie.Need-array-read-t13
-array-read-t13 c = search needs
+put-requires : tie.Need-put-requires
+put-requires c κs = search needs
 
-array-read-t16 : tie.Need-array-read-t16
-array-read-t16 c = search needs
+slice-aggregate-put-3 : tie.Need-slice-aggregate-put-3
+slice-aggregate-put-3 c = search needs
 
-array-read-t19 : tie.Need-array-read-t19
-array-read-t19 c = search needs
+slice-aggregate-put-4 : tie.Need-slice-aggregate-put-4
+slice-aggregate-put-4 c = search needs
 
-array-read-t22 : tie.Need-array-read-t22
-array-read-t22 c = search needs
-
-array-read-t25 : tie.Need-array-read-t25
-array-read-t25 c = search needs
-
-array-read-t28 : tie.Need-array-read-t28
-array-read-t28 c = search needs
+put-requires-2 : tie.Need-put-requires-2
+put-requires-2 c κs = search needs
 
 returns : tie.Need-returns
-unfolding tabulate
 returns c =
-    let n : length (c .args .t1) ≡ 8 = search needs in
-    sym (ap (λ (l : List ℕ). (version ∷ l) ++ (c .args .id ∷ c .args .size ∷ [])) (all-elements 0 8 (c .args .t1) n))
+    let start = c .before .before .before .before .before .before .before .before in
+    let a = start .args in
+    let n : length (a .t1) ≡ 8 = search needs in
+    let whole : List ℕ = replicate 11 1 in
+    let first : c .before .before .before .before .before .put .last .0 ≡ (version ∷ a .t1) ++ drop 9 whole
+    = rw n at (copied-next whole (version ∷ []) (a .t1) whole (c .before .before .before .before .before .put .last .0) 1 refl refl (c .before .before .before .before .before .put .ensures)) in
+    let m : length (version ∷ a .t1) ≡ 9 = omega arith in
+    copied-next whole (version ∷ a .t1) (a .id ∷ a .size ∷ []) (c .before .before .before .before .before .put .last .0) (c .before .put2 .last .0) 9 m first (c .before .put2 .ensures)
+    ∙ nothing-left whole ((version ∷ a .t1) ++ (a .id ∷ a .size ∷ [])) 11 (omega arith)
 
 pub covered-spec : {M : Type 1} → statement M
 covered-spec =
     tie.close
     (tie.spec
-    array-read-t7
-    array-read-t10
-    array-read-t13
-    array-read-t16
-    array-read-t19
-    array-read-t22
-    array-read-t25
-    array-read-t28
+    slice-aggregate-put
+    slice-aggregate-put-2
+    put-requires
+    slice-aggregate-put-3
+    slice-aggregate-put-4
+    put-requires-2
     returns)

@@ -1,7 +1,8 @@
--- `signing::derived_key` meets its contract: the first bytes of the digest. Assumes nothing.
+-- `signing::derived_key` meets its contract: the first bytes of the digest.
 use mathlib.Core.Path.{ap, _∙_}
 use lib.ListN.{take}
-use Rattle.wire.specs.Signing.{tagBytes, derivedKey}
+use Rattle.sizes.specs.Sizes.{tagSize}
+use Rattle.wire.specs.Signing.{derivedKey}
 use borrow.Author.Needs.{needs}
 use Rattle.wire.proofs.signing.derived_key.Statement.{statement}
 use Rattle.wire.proofs.signing.derived_key.Tie as tie
@@ -15,12 +16,12 @@ slice-aggregate-hash-pair-2 c = search needs
 hash-pair-requires : tie.Need-hash-pair-requires
 hash-pair-requires c κs = search needs
 
-first-eight-requires : tie.Need-first-eight-requires
-first-eight-requires c κs = search needs
+first-bytes-requires : tie.Need-first-bytes-requires
+first-bytes-requires c κs = search needs
 
 returns : tie.Need-returns
 unfolding derivedKey
-returns c = c .first-eight .ensures ∙ ap (take tagBytes) (c .before .hash-pair .ensures)
+returns c = c .first-bytes .ensures ∙ ap (take tagSize) (c .before .hash-pair .ensures)
 
 pub derived-key-spec : {M : Type 1} → statement M
 derived-key-spec =
@@ -29,5 +30,5 @@ derived-key-spec =
     slice-aggregate-hash-pair
     slice-aggregate-hash-pair-2
     hash-pair-requires
-    first-eight-requires
+    first-bytes-requires
     returns)

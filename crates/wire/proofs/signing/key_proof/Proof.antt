@@ -1,7 +1,8 @@
--- `signing::key_proof` meets its contract: the first bytes of the digest. Assumes nothing.
+-- `signing::key_proof` meets its contract: the first bytes of the digest.
 use mathlib.Core.Path.{ap, _∙_}
 use lib.ListN.{take}
-use Rattle.wire.specs.Signing.{tagBytes, keyProof}
+use Rattle.sizes.specs.Sizes.{tagSize}
+use Rattle.wire.specs.Signing.{keyProof}
 use borrow.Author.Needs.{needs}
 use Rattle.wire.proofs.signing.key_proof.Statement.{statement}
 use Rattle.wire.proofs.signing.key_proof.Tie as tie
@@ -15,12 +16,12 @@ slice-aggregate-hash-pair-2 c = search needs
 hash-pair-requires : tie.Need-hash-pair-requires
 hash-pair-requires c κs = search needs
 
-first-eight-requires : tie.Need-first-eight-requires
-first-eight-requires c κs = search needs
+first-bytes-requires : tie.Need-first-bytes-requires
+first-bytes-requires c κs = search needs
 
 returns : tie.Need-returns
 unfolding keyProof
-returns c = c .first-eight .ensures ∙ ap (take tagBytes) (c .before .hash-pair .ensures)
+returns c = c .first-bytes .ensures ∙ ap (take tagSize) (c .before .hash-pair .ensures)
 
 pub key-proof-spec : {M : Type 1} → statement M
 key-proof-spec =
@@ -29,5 +30,5 @@ key-proof-spec =
     slice-aggregate-hash-pair
     slice-aggregate-hash-pair-2
     hash-pair-requires
-    first-eight-requires
+    first-bytes-requires
     returns)

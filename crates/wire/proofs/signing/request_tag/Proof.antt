@@ -1,4 +1,4 @@
--- `signing::request_tag` meets its contract: the first bytes of the code over the covered bytes and the data. Assumes nothing.
+-- `signing::request_tag` meets its contract: the first bytes of the code over the covered bytes and the data.
 use mathlib.Core.Path.{ap, _∙_}
 use lib.ListN.{take}
 use mathlib.Core.List.{List, _++_, append-nil}
@@ -6,7 +6,8 @@ use Prim.Native.Nat.{ℕ}
 use denote.Ref.{now}
 use Rattle.primitives.specs.Standards.{HMAC}
 use Rattle.wire.proofs.Tagged.{covered-then}
-use Rattle.wire.specs.Signing.{tagBytes, requestTag}
+use Rattle.sizes.specs.Sizes.{tagSize}
+use Rattle.wire.specs.Signing.{requestTag}
 use borrow.Author.Needs.{needs}
 use Rattle.wire.proofs.signing.request_tag.Statement.{statement}
 use Rattle.wire.proofs.signing.request_tag.Tie as tie
@@ -23,15 +24,15 @@ slice-aggregate-mac-2 c = search needs
 mac-requires : tie.Need-mac-requires
 mac-requires c κs = search needs
 
-first-eight-requires : tie.Need-first-eight-requires
-first-eight-requires c κs = search needs
+first-bytes-requires : tie.Need-first-bytes-requires
+first-bytes-requires c κs = search needs
 
 returns : tie.Need-returns
 unfolding requestTag
 returns c =
     let a = c .before .before .before .before .before .before .before .args in
-    c .first-eight .ensures
-    ∙ ap (take tagBytes)
+    c .first-bytes .ensures
+    ∙ ap (take tagSize)
     (c .before .mac .ensures
     ∙ ap (HMAC (now (a .key)))
     (ap (λ (l : List ℕ). c .before .before .before .before .covered .result ++ l) (append-nil (now (a .additional)))
@@ -45,5 +46,5 @@ request-tag-spec =
     slice-aggregate-mac
     slice-aggregate-mac-2
     mac-requires
-    first-eight-requires
+    first-bytes-requires
     returns)

@@ -1,0 +1,3 @@
+pub mod Pasting
+pub mod Numbers
+pub mod Gathered

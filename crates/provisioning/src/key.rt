@@ -1,0 +1,139 @@
+// The requests 0x02, 0x03 and 0x04: setting, clearing and recovering the identity key.
+ghost use mathlib.Core.Path.{_≡_};
+ghost use mathlib.Core.Bool.{_||_};
+ghost use Prim.Native.Nat.{_≤_};
+ghost use lib.Dec.{ltb};
+ghost use lib.ListN.{length};
+ghost use Rattle.sizes.specs.Sizes.{identityKeySize};
+ghost use Rattle.wire.specs.Shape.{request};
+ghost use Rattle.authentication.specs.Promises.{Ready, Judges};
+ghost use Rattle.provisioning.specs.Provisioning.{mayReplace, rekeyed, cleared as clearedUnit, setKey, clearKey, recoverKey};
+use authentication::Found;
+use authentication::Verdict;
+use authentication::account;
+use authentication::answering;
+use authentication::identity;
+use sizes::IDENTITY_KEY_SIZE;
+use unit::Identity;
+use unit::Refusal;
+use unit::TagUnit;
+use unit::change;
+use wire::Head;
+use wire::blocks;
+use wire::shape;
+use wire::signing;
+
+// Whether 0x02 may set the key: a proof of the key held (48), or no key held (40).
+fn may_replace(u: TagUnit, h: Head, additional: &[u8]) -> bool
+    requires { ⌜ identityKeySize ≤ length (now additional) ⌝ }
+    ensures { λ r. ⌜ r ≡ mayReplace u (request h (now (additional .entry))) ⌝ }
+{
+    let k = u.identity;
+    if h.size == shape::PROVEN_SIZE {
+        if k.held {
+            return identity::proves(u, &additional[IDENTITY_KEY_SIZE..]);
+        }
+        return false;
+    }
+    !k.held
+}
+
+// The unit with a new identity key: silent, and without an identifier.
+fn with_key(u: TagUnit, key: [u8; IDENTITY_KEY_SIZE]) -> TagUnit
+    ensures { λ r. ⌜ r ≡ rekeyed key u ⌝ }
+{
+    let mut after = change::silenced(u);
+    let i = change::no_identifier();
+    after.identifier = i;
+    let k = Identity {
+        held: true,
+        bytes: key,
+    };
+    after.identity = k;
+    after
+}
+
+// 0x02: sets the identity key.
+pub fn set_key(u: TagUnit, h: Head, additional: &[u8]) -> Verdict
+    requires { ⌜ Ready u (h .size) (now additional) × (identityKeySize ≤ length (now additional)) ⌝ }
+    ensures { λ r. ⌜ Judges u (h .id) (setKey u (request h (now (additional .entry)))) r ⌝ }
+{
+    let found = account::signed_by_owner(u, h, additional);
+    let Found::At(place) = found else {
+        return answering::denied(u, Refusal::NotAuthenticated);
+    };
+    if !may_replace(u, h, additional) {
+        return answering::denied(u, Refusal::NotAuthenticated);
+    }
+    let a = u.accounts;
+    let key = account::key_at(a, place);
+    let after = with_key(u, blocks::decrypted_key(key, additional));
+    answering::granted(after, account::signing_key(key), b"")
+}
+
+// The unit cleared: fresh, but for settings, clock, last nonce, battery and pairing.
+fn cleared(u: TagUnit) -> TagUnit
+    ensures { λ r. ⌜ r ≡ clearedUnit u ⌝ }
+{
+    let settings = u.settings;
+    let clock = u.clock;
+    let nonce = u.nonce;
+    let mut after = change::fresh(settings);
+    after.clock = clock;
+    after.nonce = nonce;
+    after.battery = u.battery;
+    after.pairing = u.pairing;
+    after
+}
+
+// 0x03: clears the identity key.
+pub fn clear_key(u: TagUnit, h: Head, additional: &[u8]) -> Verdict
+    requires { ⌜ Ready u (h .size) (now additional) ⌝ }
+    ensures { λ r. ⌜ Judges u (h .id) (clearKey u (request h (now (additional .entry)))) r ⌝ }
+{
+    let found = account::signed_by_owner(u, h, additional);
+    let Found::At(place) = found else {
+        return answering::denied(u, Refusal::NotAuthenticated);
+    };
+    if !identity::proves(u, additional) {
+        return answering::denied(u, Refusal::NotAuthenticated);
+    }
+    let a = u.accounts;
+    let key = account::signing_key(account::key_at(a, place));
+    answering::granted(cleared(u), key, b"")
+}
+
+// Whether consent is left or pairing is on.
+fn consents(consent: u16, pairing: bool) -> bool
+    ensures { λ r. ⌜ r ≡ (ltb 0 consent || pairing) ⌝ }
+{
+    if 0 < consent {
+        return true;
+    }
+    pairing
+}
+
+// 0x04: recovers the identity key, with consent or in pairing mode.
+pub fn recover_key(u: TagUnit, h: Head, additional: &[u8]) -> Verdict
+    requires { ⌜ Ready u (h .size) (now additional) ⌝ }
+    ensures { λ r. ⌜ Judges u (h .id) (recoverKey u (request h (now (additional .entry)))) r ⌝ }
+{
+    let a = u.accounts;
+    let found = account::owner_place(a);
+    let Found::At(place) = found else {
+        return answering::denied(u, Refusal::NotAuthenticated);
+    };
+    let recovery = identity::derived_key(u, signing::RECOVERY);
+    let n = u.nonce;
+    let nonce = n.bytes;
+    if !identity::tagged(recovery, nonce, h, additional) {
+        return answering::denied(u, Refusal::NotAuthenticated);
+    }
+    if !consents(u.consent, u.pairing) {
+        return answering::denied(u, Refusal::NoConsent);
+    }
+    let k = u.identity;
+    let held = k.bytes;
+    let data = blocks::encrypted_key(account::key_at(a, place), held);
+    answering::granted(u, recovery, &data)
+}

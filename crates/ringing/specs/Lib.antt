@@ -1,0 +1,2 @@
+pub mod Ringing
+pub mod Protecting

@@ -1,0 +1,194 @@
+// The requests 0x05 and 0x06: ring, stop, and read what rings.
+ghost use mathlib.Core.Path.{_≡_};
+ghost use mathlib.Core.Bool.{_||_};
+ghost use Prim.Native.Nat.{_≤_};
+ghost use lib.ListN.{length};
+ghost use Rattle.sizes.specs.Sizes.{accountKeySize, mostLength, mostComponents};
+ghost use Rattle.wire.specs.Shape.{request};
+ghost use Rattle.wire.specs.Signing.{ringKey, ringId};
+ghost use Rattle.authentication.specs.Judgement.{tagged as isTagged, lastNonce};
+ghost use Rattle.authentication.specs.Promises.{Ready, Judges, Signs, signingBytes};
+ghost use Rattle.ringing.specs.Ringing.{skips as isSkipped, allOfNone, askedTimeout, ringMask, ringLegal, heldVolume, rung as rungBy, ring as ringBy, soundState, readSound, ringData};
+use authentication::SigningKey;
+use authentication::Verdict;
+use authentication::answering;
+use authentication::identity;
+use sizes::HIGHEST_VOLUME;
+use sizes::LONGEST_RING;
+use unit::Protection;
+use unit::Refusal;
+use unit::Settings;
+use unit::Sound;
+use unit::TagUnit;
+use unit::change;
+use unit::mask;
+use wire::Head;
+use wire::answer;
+use wire::signing;
+
+// The mask that means all components.
+const WHOLE_MASK: u8 = 0xFF;
+
+const STATE_SIZE: usize = 3;
+
+// Whether a ring needs no tag: under protection with the skip flag.
+fn skips(protection: Protection) -> bool
+    ensures { λ r. ⌜ r ≡ isSkipped protection ⌝ }
+{
+    match protection {
+        Protection::Off => false,
+        Protection::On { skip } => skip,
+    }
+}
+
+// The timeout that a ring asks for, in tenths.
+fn asked_timeout(additional: &[u8]) -> u16
+    requires { ⌜ length (now additional) ≡ ringData ⌝ }
+    ensures { λ r. ⌜ r ≡ askedTimeout (now (additional .entry)) ⌝ }
+{
+    (additional[1] as u16) * 256 + (additional[2] as u16)
+}
+
+// The mask that a ring asks for: 0xFF means all components.
+fn ring_mask(s: Settings, additional: &[u8]) -> u8
+    requires { ⌜ (length (now additional) ≡ ringData) × (s .components ≤ mostComponents) ⌝ }
+    ensures { λ r. ⌜ r ≡ ringMask s (now (additional .entry)) ⌝ }
+{
+    let asked = additional[0];
+    if asked == WHOLE_MASK {
+        return mask::ringable_mask(s.components);
+    }
+    asked
+}
+
+// Whether all components are asked of a unit that has none, where the mask is the one that is asked for.
+fn all_of_none(s: Settings, ring: u8, additional: &[u8]) -> bool
+    requires { ⌜ (length (now additional) ≡ ringData) × (ring ≡ ringMask s (now additional)) ⌝ }
+    ensures { λ r. ⌜ r ≡ allOfNone s (now (additional .entry)) ⌝ }
+{
+    if additional[0] == WHOLE_MASK {
+        return ring == 0;
+    }
+    false
+}
+
+// Whether the values of a ring with this mask are legal.
+fn ring_legal(s: Settings, ring: u8, additional: &[u8]) -> bool
+    requires { ⌜ ((length (now additional) ≡ ringData) × (s .components ≤ mostComponents)) × (ring ≡ ringMask s (now additional)) ⌝ }
+    ensures { λ r. ⌜ r ≡ ringLegal s (now (additional .entry)) ⌝ }
+{
+    if !mask::inside(ring, s.components) {
+        return false;
+    }
+    if all_of_none(s, ring, additional) {
+        return false;
+    }
+    if HIGHEST_VOLUME < additional[3] {
+        return false;
+    }
+    if ring == 0 {
+        return true;
+    }
+    let timeout = asked_timeout(additional);
+    if timeout < 1 {
+        return false;
+    }
+    timeout <= LONGEST_RING
+}
+
+// The volume that is held: 0 where it is not selectable.
+fn held_volume(s: Settings, additional: &[u8]) -> u8
+    requires { ⌜ length (now additional) ≡ ringData ⌝ }
+    ensures { λ r. ⌜ r ≡ heldVolume s (now (additional .entry)) ⌝ }
+{
+    if s.selectable == 0 {
+        return 0;
+    }
+    additional[3]
+}
+
+// Rings or stops; the answer is a notice, signed with the write's own nonce.
+fn rung(u: TagUnit, key: SigningKey, ring: u8, volume: u8, left: u16) -> Verdict
+    requires { ⌜ Signs (ringKey (u .identity .bytes)) key ⌝ }
+    ensures { λ r. ⌜ Judges u ringId (rungBy u ring volume left) r ⌝ }
+{
+    if ring == 0 {
+        let stopped = answer::notice_data(answer::BY_REQUEST, 0, 0);
+        return answering::granted(change::silenced(u), key, &stopped);
+    }
+    let n = u.nonce;
+    let nonce = n.bytes;
+    let sound = Sound::Ringing {
+        mask: ring,
+        volume,
+        left,
+    };
+    let started = answer::notice_data(answer::STARTED, ring, left);
+    answering::granted(change::with_sound(u, sound, nonce), key, &started)
+}
+
+// Whether a ring is let through: by the skip flag, or by its tag.
+fn let_through(u: TagUnit, key: SigningKey, h: Head, additional: &[u8]) -> bool
+    requires { ⌜ (key .size ≤ accountKeySize) × (length (now additional) ≤ mostLength) ⌝ }
+    ensures { λ r. ⌜ r ≡ (isSkipped (u .protection) || isTagged (signingBytes key) (lastNonce u) (request h (now (additional .entry)))) ⌝ }
+{
+    let protection = u.protection;
+    if skips(protection) {
+        return true;
+    }
+    let n = u.nonce;
+    let nonce = n.bytes;
+    identity::tagged(key, nonce, h, additional)
+}
+
+// 0x05: rings, or stops the ring.
+pub fn ring(u: TagUnit, h: Head, additional: &[u8]) -> Verdict
+    requires { ⌜ Ready u (h .size) (now additional) × ((length (now additional) ≡ ringData) × (h .id ≡ ringId)) ⌝ }
+    ensures { λ r. ⌜ Judges u (h .id) (ringBy u (request h (now (additional .entry)))) r ⌝ }
+{
+    let key = identity::derived_key(u, signing::RING);
+    if !let_through(u, key, h, additional) {
+        return answering::denied(u, Refusal::NotAuthenticated);
+    }
+    let s = u.settings;
+    let ring = ring_mask(s, additional);
+    if !ring_legal(s, ring, additional) {
+        return answering::denied(u, Refusal::InvalidValue);
+    }
+    let volume = held_volume(s, additional);
+    let left = asked_timeout(additional);
+    rung(u, key, ring, volume, left)
+}
+
+// What 0x06 gives: mask and tenths left, zeros when silent.
+fn sound_state(sound: Sound) -> [u8; STATE_SIZE]
+    ensures { λ r. ⌜ r ≡ soundState sound ⌝ }
+{
+    match sound {
+        Sound::Silent => [0; STATE_SIZE],
+        Sound::Ringing {
+            mask,
+            volume: _,
+            left,
+        } => {
+            let tenths = octets::two(left);
+            [mask, tenths[0], tenths[1]]
+        }
+    }
+}
+
+// 0x06: reads what rings.
+pub fn read_sound(u: TagUnit, h: Head, additional: &[u8]) -> Verdict
+    requires { ⌜ Ready u (h .size) (now additional) ⌝ }
+    ensures { λ r. ⌜ Judges u (h .id) (readSound u (request h (now (additional .entry)))) r ⌝ }
+{
+    let key = identity::derived_key(u, signing::RING);
+    let n = u.nonce;
+    let nonce = n.bytes;
+    if !identity::tagged(key, nonce, h, additional) {
+        return answering::denied(u, Refusal::NotAuthenticated);
+    }
+    let sound = u.sound;
+    let state = sound_state(sound);
+    answering::granted(u, key, &state)
+}

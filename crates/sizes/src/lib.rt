@@ -1,0 +1,43 @@
+// The sizes and limits of the paper, each in one line, as the code names them; specs/Sizes has the sentences.
+
+// Bytes of each thing that has a fixed size.
+pub const NONCE_SIZE: usize = 8;
+
+pub const TAG_SIZE: usize = 8;
+
+pub const BLOCK_SIZE: usize = 16;
+
+pub const DIGEST_SIZE: usize = 32;
+
+pub const ACCOUNT_KEY_SIZE: usize = 16;
+
+pub const IDENTITY_KEY_SIZE: usize = 32;
+
+pub const IDENTIFIER_SIZE: usize = 20;
+
+// The account keys that a unit has room for.
+pub const MOST_KEYS: usize = 5;
+
+pub const KEYS_ROOM: usize = MOST_KEYS * ACCOUNT_KEY_SIZE;
+
+// ID, length byte and tag stand before the data of a request or an answer.
+pub const HEAD_SIZE: usize = 2 + TAG_SIZE;
+
+// The most data of an answer, a recovered identity key, and the fewest answer bytes that a call with an answer takes.
+pub const MOST_DATA: usize = IDENTITY_KEY_SIZE;
+
+pub const ANSWER_ROOM: usize = HEAD_SIZE + MOST_DATA;
+
+pub const MOST_COMPONENTS: u8 = 3;
+
+pub const HIGHEST_VOLUME: u8 = 3;
+
+pub const HIGHEST_BATTERY: u8 = 3;
+
+// Tenths of a second.
+pub const LONGEST_RING: u16 = 6000;
+
+pub const FULL_CONSENT: u16 = 600;
+
+// Seconds of a window.
+pub const WINDOW_LENGTH: u32 = 1024;

@@ -1,0 +1,70 @@
+-- What each call does on a unit that passed the guards: its own refusals, in order, and what becomes of the unit.
+use Prim.Native.Nat.{ℕ}
+use mathlib.Core.Bool.{Bool, true, false, cond, not, _&&_}
+use mathlib.Core.List.{List, [], _∷_}
+use lib.Dec.{eqb, leb, ltb}
+use lib.ListN.{length}
+use Rattle.laws.specs.Bytes.{sameBytes}
+use Rattle.sizes.specs.Sizes.{nonceSize, accountKeySize, identifierSize, mostKeys, highestBattery, fullConsent, window}
+use Rattle.tables.specs.Rows.{among}
+use Rattle.unit.specs.declared.TagUnit.{TagUnit}
+use Rattle.unit.specs.declared.Sound.{Sound}
+use Rattle.unit.specs.declared.Protection.{Protection}
+use Rattle.unit.specs.WellFormed.{heldKeys}
+use Rattle.unit.specs.Change.{silenced, withNonce, withAccounts, withNewKey, withConsent, withPairing, withBattery, withIdentifier}
+use Rattle.unit.specs.Standing.{stands}
+use Rattle.unit.specs.Outcome.{Outcome, giving, refusing}
+use Rattle.wire.specs.Signing.{version, stopNotice, byButton}
+use Rattle.frame.specs.Frame.{rendered, flagsFor}
+
+-- Read: "gives 0x01 and the lent nonce (9 bytes) and makes that nonce live, replacing any other"; "3: lent nonce not 8 bytes, or equal
+-- to the last issued"
+unfoldable pub nonceFits : TagUnit → List ℕ → Bool
+nonceFits u nonce = eqb (length nonce) nonceSize && not (u .nonce .held && sameBytes (u .nonce .bytes) nonce)
+
+unfoldable pub issuing : List ℕ → TagUnit → Outcome
+issuing nonce u =
+    cond (nonceFits u nonce)
+    (giving (version ∷ nonce) (withNonce (record { held = true; live = true; bytes = nonce }) u))
+    (refusing 3 u)
+
+-- Button: "A press while ringing stops it, status 3, and gives no consent. A press while silent sets consent to 600 (house)"; its notice
+-- uses "the nonce of the accepted ring"
+unfoldable pub pressed : Sound → TagUnit → Outcome
+pressed Sound.Silent u = giving [] (withConsent fullConsent u)
+pressed (Sound.Ringing mask volume left) u = giving (stopNotice (u .identity .bytes) (u .«ring_nonce») byButton) (silenced u)
+
+-- "1: .. battery out of range"
+unfoldable pub charged : ℕ → TagUnit → Outcome
+charged level u = cond (leb level highestBattery) (giving [] (withBattery level u)) (refusing 1 u)
+
+-- "4: account key not 16 bytes, or a sixth new key"; "Adding a key already held succeeds and changes nothing, even when full"
+unfoldable pub keeping : List ℕ → TagUnit → Outcome
+keeping key u =
+    cond (not (eqb (length key) accountKeySize)) (refusing 4 u)
+    (cond (among key (heldKeys (u .accounts))) (giving [] u)
+    (cond (ltb (u .accounts .count) mostKeys)
+    (giving [] (withAccounts (withNewKey key (u .accounts)) u))
+    (refusing 4 u)))
+
+-- "for a lent identifier .. 1, then 5"; it is lent for the current window
+unfoldable pub lending : List ℕ → List ℕ → TagUnit → Outcome
+lending r id u =
+    cond (not (eqb (length r) identifierSize && eqb (length id) identifierSize)) (refusing 1 u)
+    (cond (u .identity .held)
+    (giving [] (withIdentifier (record { held = true; r = r; id = id; window = window (u .clock .seconds) }) u))
+    (refusing 5 u))
+
+-- Frame: "Refusal 5 without a key or an identifier for the current window"
+abbrev pub protected : Protection → Bool
+protected Protection.Off = false
+protected (Protection.On skip) = true
+
+unfoldable pub showing : TagUnit → Outcome
+showing u =
+    cond (stands u)
+    (giving
+    (rendered (u .identifier .id) (protected (u .protection))
+    (flagsFor (u .battery) (protected (u .protection)) (u .identifier .r)))
+    u)
+    (refusing 5 u)
