@@ -1,0 +1,3 @@
+pub mod Modulo
+pub mod Points
+pub mod Curves
