@@ -5,3 +5,5 @@ pub mod Powers
 pub mod Divisors
 pub mod Pocklington
 pub mod Primes
+pub mod Modulo
+pub mod Ring
