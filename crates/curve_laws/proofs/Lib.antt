@@ -7,3 +7,4 @@ pub mod Pocklington
 pub mod Primes
 pub mod Modulo
 pub mod Ring
+pub mod Field

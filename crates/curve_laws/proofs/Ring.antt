@@ -24,7 +24,6 @@ pub data Expr : Type 0 where
 infixl 60 _⊕_
 infixl 60 _⊖_
 infixl 70 _⊗_
-
 abbrev pub value : ℕ → List ℕ → Expr → ℕ
 value p ρ (var i) = getD ρ i 0
 value p ρ (num k) = k
@@ -94,6 +93,10 @@ both-left false b t = t
 both-right : (a b : Bool) → T (a && b) → T b
 both-right true b t = t
 both-right false b t = absurd t
+
+-- the test: every coefficient is 0
+abbrev pub Vanishes : Expr → Type 0
+Vanishes e = T (vanishing (normal e))
 
 -- ---- what they stand for
 
@@ -210,7 +213,7 @@ module _ (q : ℕ) where
 pub record Zero (p : ℕ) (ρ : List ℕ) (e : Expr) : Type 0 where
   pub is-zero : Same p (value p ρ e) 0
 
-pub zero-identity : {p : ℕ} (ρ : List ℕ) (e : Expr) → 0 < p → T (vanishing (normal e)) → Zero p ρ e
+pub zero-identity : {p : ℕ} (ρ : List ℕ) (e : Expr) → 0 < p → Vanishes e → Zero p ρ e
 zero-identity {p = zero} ρ e h t = absurd (omega arith)
 zero-identity {p = suc q} ρ e h t = record { is-zero = normal-worth q ρ e then vanishing-worth q ρ (normal e) t }
 
@@ -222,7 +225,7 @@ module _ {p : ℕ} {ρ : List ℕ} where
   _⊡_ c {e} z =
       record {
         is-zero =
-            times-same p (value p ρ c) (value p ρ e) then products (same (value p ρ c)) (z .is-zero) then same-eq (mul-zero (value p ρ c))
+            times-same p (value p ρ c) (value p ρ e) then products (same (value p ρ c)) (z .is-zero) then same-eq (mul-zero (value p ρ c));
       }
 
   infixl 60 _⊞_
@@ -232,12 +235,12 @@ module _ {p : ℕ} (h : 0 < p) (ρ : List ℕ) where
   pub gap : (l r : Expr) → Same p (value p ρ l) (value p ρ r) → Zero p ρ (l ⊖ r)
   gap l r s = record { is-zero = minus-none h s }
 
-  pub identity : (l r : Expr) → T (vanishing (normal (l ⊖ r))) → Same p (value p ρ l) (value p ρ r)
+  pub identity : (l r : Expr) → Vanishes (l ⊖ r) → Same p (value p ρ l) (value p ρ r)
   identity l r t = none-minus h (zero-identity ρ (l ⊖ r) h t .is-zero)
 
   -- what is a combination of expressions that are 0 is 0
-  pub combined : {e : Expr} → Zero p ρ e → (f : Expr) → T (vanishing (normal (f ⊖ e))) → Zero p ρ f
+  pub combined : {e : Expr} → Zero p ρ e → (f : Expr) → Vanishes (f ⊖ e) → Zero p ρ f
   combined {e} z f t = record { is-zero = identity f e t then z .is-zero }
 
-  pub follows : {e : Expr} → Zero p ρ e → (l r : Expr) → T (vanishing (normal (l ⊖ r ⊖ e))) → Same p (value p ρ l) (value p ρ r)
+  pub follows : {e : Expr} → Zero p ρ e → (l r : Expr) → Vanishes (l ⊖ r ⊖ e) → Same p (value p ρ l) (value p ρ r)
   follows {e} z l r t = none-minus h (combined z (l ⊖ r) t .is-zero)
