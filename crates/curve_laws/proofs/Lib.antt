@@ -8,3 +8,5 @@ pub mod Primes
 pub mod Modulo
 pub mod Ring
 pub mod Field
+pub mod Jacobian
+pub mod Doubling

@@ -3,7 +3,7 @@
 use mathlib.Core.Path.{_≡_, sym, ap, _∙_}
 use Prim.Native.Nat.{ℕ, zero, suc, _+_, _-_, _*_, _/_, _%_, _^_, _<_}
 use native.Mathlib.Omega.{arith}
-use native.Mathlib.Nat.{mod-lt, div-add-mod'}
+use native.Mathlib.Nat.{mod-lt, div-add-mod', zero-mod, mul-zero, zero-mul}
 use Rattle.curve_laws.specs.Modulo.{plus, times, minus, power, inverse, over}
 use Rattle.curve_laws.proofs.Modular.{Same, same, same-eq, back, _then_, rest-of, drops, multiple-of, sums, products, cancel-sum}
 
@@ -18,6 +18,18 @@ times-same p a b = rest-of p (a * b)
 pub power-same : (p a n : ℕ) → Same p (power p a n) (a ^ n)
 unfolding power
 power-same p a n = rest-of p (a ^ n)
+
+pub times-zero : {p b : ℕ} (a : ℕ) → Same p b 0 → Same p (times p a b) 0
+times-zero {p} {b} a z = times-same p a b then products (same a) z then same-eq (mul-zero a)
+
+pub zero-times : {p a : ℕ} (b : ℕ) → Same p a 0 → Same p (times p a b) 0
+zero-times {p} {a} b z = times-same p a b then products z (same b) then same-eq (zero-mul b)
+
+pub minus-zero : {p b : ℕ} (a : ℕ) → Same p b 0 → Same p (minus p a b) a
+unfolding minus
+minus-zero {p} {b} a z =
+    let none : b % p ≡ 0 = z .rest ∙ zero-mod p in
+    rest-of p (a + (p - b % p)) then same-eq (omega (arith, none)) then drops p a 1
 
 module _ {p : ℕ} (h : 0 < p) where
   -- both, with b added, are a modulo p

@@ -11,7 +11,7 @@ use lib.ListN.{getD}
 use lib.Dec.{T, eqb, eqb→eq}
 use Rattle.curve_laws.specs.Modulo.{plus, times, minus}
 use Rattle.curve_laws.proofs.Modular.{Same, same, same-eq, back, _then_, drops, multiple-of, sums, products, cancel-sum}
-use Rattle.curve_laws.proofs.Modulo.{plus-same, times-same, minus-same, minus-none, none-minus}
+use Rattle.curve_laws.proofs.Modulo.{plus-same, times-same, minus-same, minus-zero, minus-none, none-minus}
 
 -- an expression over variables by their places in a list
 pub data Expr : Type 0 where
@@ -221,6 +221,9 @@ module _ {p : ℕ} {ρ : List ℕ} where
   pub _⊞_ : {e f : Expr} → Zero p ρ e → Zero p ρ f → Zero p ρ (e ⊕ f)
   _⊞_ {e} {f} y z = record { is-zero = plus-same p (value p ρ e) (value p ρ f) then sums (y .is-zero) (z .is-zero) }
 
+  pub _⊟_ : {e f : Expr} → Zero p ρ e → Zero p ρ f → Zero p ρ (e ⊖ f)
+  _⊟_ {e} {f} y z = record { is-zero = minus-zero (value p ρ e) (z .is-zero) then y .is-zero }
+
   pub _⊡_ : (c : Expr) {e : Expr} → Zero p ρ e → Zero p ρ (c ⊗ e)
   _⊡_ c {e} z =
       record {
@@ -229,8 +232,10 @@ module _ {p : ℕ} {ρ : List ℕ} where
       }
 
   infixl 60 _⊞_
+  infixl 60 _⊟_
   infixl 70 _⊡_
 
+-- differences, for p other than 0
 module _ {p : ℕ} (h : 0 < p) (ρ : List ℕ) where
   pub gap : (l r : Expr) → Same p (value p ρ l) (value p ρ r) → Zero p ρ (l ⊖ r)
   gap l r s = record { is-zero = minus-none h s }
