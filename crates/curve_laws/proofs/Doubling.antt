@@ -16,10 +16,10 @@ use Rattle.curve_laws.proofs.Ring.{Expr, var, num, _⊕_, _⊖_, _⊗_,
 use Rattle.curve_laws.proofs.Field.{NonZero, positive, over-times, times-nonzero, below-zero, below-nonzero}
 use Rattle.curve_laws.proofs.Jacobian.{Triple, triple, Below, Stands, doubleM, doubleS, doubleX, doubleZ, fourthY, lastY, doubleWith, doubled}
 
-abbrev square : Expr → Expr
+abbrev pub square : Expr → Expr
 square e = e ⊗ e
 
-abbrev cube : Expr → Expr
+abbrev pub cube : Expr → Expr
 cube e = e ⊗ (e ⊗ e)
 
 -- ---- the last step

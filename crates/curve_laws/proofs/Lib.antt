@@ -10,3 +10,4 @@ pub mod Ring
 pub mod Field
 pub mod Jacobian
 pub mod Doubling
+pub mod Adding
