@@ -11,3 +11,5 @@ pub mod Field
 pub mod Jacobian
 pub mod Doubling
 pub mod Adding
+pub mod Lines
+pub mod Sums

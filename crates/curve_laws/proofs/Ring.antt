@@ -218,6 +218,9 @@ zero-identity {p = zero} ρ e h t = absurd (omega arith)
 zero-identity {p = suc q} ρ e h t = record { is-zero = normal-worth q ρ e then vanishing-worth q ρ (normal e) t }
 
 module _ {p : ℕ} {ρ : List ℕ} where
+  pub none : Zero p ρ (num 0)
+  none = record { is-zero = same 0 }
+
   pub _⊞_ : {e f : Expr} → Zero p ρ e → Zero p ρ f → Zero p ρ (e ⊕ f)
   _⊞_ {e} {f} y z = record { is-zero = plus-same p (value p ρ e) (value p ρ f) then sums (y .is-zero) (z .is-zero) }
 
