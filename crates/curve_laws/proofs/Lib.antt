@@ -13,3 +13,5 @@ pub mod Doubling
 pub mod Adding
 pub mod Lines
 pub mod Sums
+pub mod ThreePoints
+pub mod Group

@@ -99,6 +99,15 @@ module _ {p : ℕ} (h : 0 < p) where
       (combined h ρ (none ⊟ rise-of h ρ a l x₁ y₁ x₂ y₂ L) (rises l x₂ y₂ x₁ y₁) tt)
       (combined h ρ (bend-of h ρ a l x₁ y₁ x₂ y₂ L) (bends a l x₂ y₂ x₁ y₁) tt)
 
+  -- the slope counts modulo p
+  pub resloped : (a₀ l₀ m₀ u v u' v' : ℕ) → Same p l₀ m₀ → Line p a₀ m₀ u v u' v' → Line p a₀ l₀ u v u' v'
+  resloped a₀ l₀ m₀ u v u' v' e L =
+      let ρ : List ℕ = a₀ ∷ l₀ ∷ u ∷ v ∷ u' ∷ v' ∷ 0 ∷ 0 ∷ 0 ∷ m₀ ∷ [] in
+      let D = gap h ρ l m e in
+      line-of h ρ a l x₁ y₁ x₂ y₂
+      (combined h ρ (rise-of h ρ a m x₁ y₁ x₂ y₂ L ⊞ (x₂ ⊖ x₁) ⊡ D) (rises l x₁ y₁ x₂ y₂) tt)
+      (combined h ρ (bend-of h ρ a m x₁ y₁ x₂ y₂ L ⊞ (y₁ ⊕ y₂) ⊡ D) (bends a l x₁ y₁ x₂ y₂) tt)
+
   -- the line through two points goes through the third's opposite
   pub onward : (a₀ l₀ u v u' v' u'' v'' : ℕ) → Line p a₀ l₀ u v u' v' → Same p (thirdX p l₀ u u') u''
       → Same p (plus p (thirdY p l₀ u v (thirdX p l₀ u u')) v'') 0 → Line p a₀ l₀ u' v' u'' v''

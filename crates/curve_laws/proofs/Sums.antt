@@ -30,6 +30,16 @@ opposite? p x y x' y' = go (ℕ-discrete x x') (same? p (plus p y y') 0)
     go (yes e) (no n) = no (λ o. n (o .1))
     go (no n) d = no (λ o. n (o .0))
 
+-- infinity is neutral
+pub add-left : (p a : ℕ) (Q : Point) → add p a infinity Q ≡ Q
+unfolding add
+add-left p a Q = refl
+
+pub add-right : (p a : ℕ) (Q : Point) → add p a Q infinity ≡ Q
+unfolding add
+add-right p a infinity = refl
+add-right p a (at x y) = refl
+
 module _ {p : ℕ} (P : Prime p) (odd : 2 < p) (a b : ℕ) where
   h : 0 < p
   h = positive P
@@ -103,7 +113,7 @@ module _ {p : ℕ} (P : Prime p) (odd : 2 < p) (a b : ℕ) where
         go false e = chord-line P odd a b x y x' y' (on .2) (on' .2) (distinct (eqb-false x x' e))
 
     -- and the sum is its third point
-    add-slope : add p a (at x y) (at x' y') ≡ third p slope x y x'
+    pub add-slope : add p a (at x y) (at x' y') ≡ third p slope x y x'
     unfolding add slope
     add-slope = go (eqb x x') refl
       where
@@ -119,7 +129,7 @@ module _ {p : ℕ} (P : Prime p) (odd : 2 < p) (a b : ℕ) where
     pub add-line : (l : ℕ) → Line p a l x y x' y' → add p a (at x y) (at x' y') ≡ third p l x y x'
     add-line l L = add-slope ∙ third-same h slope l x y x' (slopes P odd a slope l x y x' y' slope-line L differing)
 
-  third-point-on : (l x y x' y' : ℕ) → OnCurve p a b (at x y) → Line p a l x y x' y' → OnCurve p a b (third p l x y x')
+  pub third-point-on : (l x y x' y' : ℕ) → OnCurve p a b (at x y) → Line p a l x y x' y' → OnCurve p a b (third p l x y x')
   unfolding third
   third-point-on l x y x' y' on L =
       (third-X-below h l x x', third-Y-below h l x y (thirdX p l x x'), third-on h a b l x y x' y' (on .2) L)
