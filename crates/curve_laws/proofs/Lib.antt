@@ -15,3 +15,5 @@ pub mod Lines
 pub mod Sums
 pub mod ThreePoints
 pub mod Group
+pub mod Multiples
+pub mod Binary
