@@ -8,7 +8,7 @@ use lib.Dec.{eqb}
 use Rattle.curve_laws.specs.Modulo.{plus, times, inverse, over}
 use Rattle.curve_laws.specs.Points.{Point, infinity, at, xOf, OnCurve, discriminant, double, add, total}
 use Rattle.curve_laws.proofs.Modular.{Same, same-eq, back, _then_, settle}
-use Rattle.curve_laws.proofs.Prime.{Prime}
+use Rattle.curve_laws.specs.Valid.{Prime}
 use Rattle.curve_laws.proofs.Modulo.{times-below, times-zero}
 use Rattle.curve_laws.proofs.Field.{NonZero, positive, inverse-zero, over-times, times-nonzero, below-zero, follows-divided}
 use Rattle.curve_laws.proofs.Ring.{var, num, _⊕_, _⊖_, _⊗_, _⊟_, gap}
@@ -18,7 +18,7 @@ use Rattle.curve_laws.proofs.Jacobian.{Triple, triple, Below, Stands, d
 use Rattle.curve_laws.proofs.Doubling.{doubling}
 use Rattle.curve_laws.proofs.Adding.{adding}
 
-below-of : (p a b : ℕ) (Q : Point) → OnCurve p a b Q → Below p Q
+pub below-of : (p a b : ℕ) (Q : Point) → OnCurve p a b Q → Below p Q
 below-of p a b infinity on = tt
 below-of p a b (at x y) on = (on .0, on .1)
 

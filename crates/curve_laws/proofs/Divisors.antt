@@ -8,8 +8,9 @@ use native.Mathlib.Omega.{arith}
 use native.Mathlib.Decide.{decLt, ℕ-discrete}
 use native.Mathlib.Nat.{mod-self, mod-mod-of-dvd, mod-eq-zero-of-dvd, dvd-of-mod-eq-zero, dvd-trans, div-add-mod', mul-mod-right, mul-le-mul, mul-le-mul-right}
 use lib.Dec.{T, eqb, ltb, ltb→lt, T-not}
+use Rattle.curve_laws.proofs.Tests.{both}
 use Rattle.curve_laws.proofs.Modular.{Same}
-use Rattle.curve_laws.proofs.Prime.{Prime}
+use Rattle.curve_laws.specs.Valid.{Prime}
 
 -- what holds modulo n holds modulo its divisors
 pub modulo-divisor : {n a b : ℕ} (d : ℕ) → n % d ≡ 0 → Same n a b → Same d a b
@@ -89,10 +90,6 @@ root a b h = go (decLt a b)
 abbrev pub undivided : ℕ → ℕ → Bool
 undivided n zero = true
 undivided n (suc k) = not (eqb (n % (k + 2)) 0) && undivided n k
-
-both : (a b : Bool) → T (a && b) → T a × T b
-both true b t = (tt, t)
-both false b t = absurd t
 
 undivided-at : (n k d : ℕ) → T (undivided n k) → 1 < d → d < k + 2 → n % d ≢ 0
 undivided-at n zero d t h l = absurd (omega arith)

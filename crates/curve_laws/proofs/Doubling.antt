@@ -10,7 +10,7 @@ use borrow.Author.Tests.{eqb-true, eqb-false}
 use Rattle.curve_laws.specs.Modulo.{plus, times, minus, over}
 use Rattle.curve_laws.specs.Points.{Point, infinity, at, third, thirdX, thirdY, tangent, double}
 use Rattle.curve_laws.proofs.Modular.{Same, same, same-eq, back, _then_}
-use Rattle.curve_laws.proofs.Prime.{Prime}
+use Rattle.curve_laws.specs.Valid.{Prime}
 use Rattle.curve_laws.proofs.Modulo.{times-below, times-zero, zero-times}
 use Rattle.curve_laws.proofs.Ring.{Expr, var, num, _⊕_, _⊖_, _⊗_, _⊞_, _⊟_, _⊡_, gap, follows}
 use Rattle.curve_laws.proofs.Field.{NonZero, positive, over-times, times-nonzero, below-zero, below-nonzero}

@@ -7,7 +7,7 @@ use native.Mathlib.Decide.{ℕ-discrete}
 use Rattle.curve_laws.specs.Modulo.{plus, times, minus, over}
 use Rattle.curve_laws.specs.Points.{Point, infinity, at, OnCurve, discriminant, third, thirdX, thirdY, add}
 use Rattle.curve_laws.proofs.Modular.{Same, same-eq, back, _then_, settle}
-use Rattle.curve_laws.proofs.Prime.{Prime}
+use Rattle.curve_laws.specs.Valid.{Prime}
 use Rattle.curve_laws.proofs.Modulo.{minus-none, none-minus}
 use Rattle.curve_laws.proofs.Ring.{var, num, _⊕_, _⊖_, _⊗_, none, _⊟_, gap, combined, follows}
 use Rattle.curve_laws.proofs.Field.{NonZero, positive, same?, over-times}

@@ -1,3 +1,4 @@
+pub mod Tests
 pub mod Modular
 pub mod Prime
 pub mod Fermat
@@ -17,3 +18,5 @@ pub mod ThreePoints
 pub mod Group
 pub mod Multiples
 pub mod Binary
+pub mod Known
+pub mod Valid

@@ -8,7 +8,7 @@ use native.Mathlib.Omega.{arith}
 use Rattle.curve_laws.specs.Modulo.{plus, times, minus, over}
 use Rattle.curve_laws.specs.Points.{Point, infinity, at, equation, third, thirdX, thirdY, chord, tangent}
 use Rattle.curve_laws.proofs.Modular.{Same, same, same-eq, back, _then_, settle}
-use Rattle.curve_laws.proofs.Prime.{Prime}
+use Rattle.curve_laws.specs.Valid.{Prime}
 use Rattle.curve_laws.proofs.Modulo.{plus-below, times-below, minus-below, none-minus}
 use Rattle.curve_laws.proofs.Ring.{Expr, var, num, _⊕_, _⊖_, _⊗_, value, Zero, none, _⊞_, _⊟_, _⊡_, gap, combined, follows}
 use Rattle.curve_laws.proofs.Field.{NonZero, positive, same?, over-times, times-nonzero, below-nonzero, divided, follows-divided}

@@ -8,7 +8,7 @@ use native.Mathlib.Nat.{add-zero, add-suc}
 use lib.Dec.{eqb}
 use borrow.Author.Tests.{eqb-true, eqb-false, eq-eqb}
 use Rattle.curve_laws.specs.Points.{Point, infinity, at, OnCurve, discriminant, double, add, total}
-use Rattle.curve_laws.proofs.Prime.{Prime}
+use Rattle.curve_laws.specs.Valid.{Prime}
 use Rattle.curve_laws.proofs.Field.{NonZero}
 use Rattle.curve_laws.proofs.Sums.{add-left, add-right, add-on}
 use Rattle.curve_laws.proofs.Group.{add-assoc}

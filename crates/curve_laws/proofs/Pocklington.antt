@@ -10,7 +10,8 @@ use native.Mathlib.Nat.{div-add-mod', mod-eq-of-lt, mod-lt, mul-le-mul, mul-le-m
 use lib.Pow.{pow-add}
 use lib.Dec.{T, eqb, ltb, ltb→lt, eqb→eq, T-not}
 use Rattle.curve_laws.proofs.Modular.{Same, same, same-eq, back, _then_, rest-of, drops, sums, products, powers, cancel-sum}
-use Rattle.curve_laws.proofs.Prime.{Prime, Inverted, inverts, no-zero-product}
+use Rattle.curve_laws.specs.Valid.{Prime}
+use Rattle.curve_laws.proofs.Prime.{Inverted, inverts, no-zero-product}
 use Rattle.curve_laws.proofs.Fermat.{fermat-one}
 use Rattle.curve_laws.proofs.Powers.{one-power, power-power, power-one, quick, quick-power}
 use Rattle.curve_laws.proofs.Divisors.{modulo-divisor, prime-by-squares}

@@ -6,11 +6,8 @@ use Prim.Native.Nat.{ℕ, zero, suc, _+_, _-_, _*_, _/_, _%_, _≤_, _<_}
 use native.Mathlib.Omega.{arith}
 use native.Mathlib.Decide.{decLt, ℕ-discrete}
 use native.Mathlib.Nat.{mod-lt, div-add-mod', mod-mod, mod-zero, mul-one}
+use Rattle.curve_laws.specs.Valid.{Prime}
 use Rattle.curve_laws.proofs.Modular.{Same, same, same-eq, back, _then_, rest-of, drops, multiple-of, sums, products, cancel-sum}
-
-pub record Prime (p : ℕ) : Type 0 where
-  pub above-one : 1 < p
-  pub indivisible : (d : ℕ) → 1 < d → d < p → p % d ≢ 0
 
 pub record Inverted (p a : ℕ) : Type 0 where
   pub by : ℕ

@@ -1,9 +1,11 @@
--- The moduli of both curves are prime: two chains of certificates, from small primes by trial division. Each certificate is a prime f
--- (or two) of n - 1 and a base; antt computes its tests.
+-- The moduli and the orders of both curves are prime: chains of certificates, from small primes by trial division. A certificate is a prime f
+-- of n - 1 (or two) with a base for it; antt computes its tests.
 use Rattle.curve_laws.specs.Curves.{Curve, SECP160R1, SECP256R1}
-use Rattle.curve_laws.proofs.Prime.{Prime}
+use Rattle.curve_laws.specs.Valid.{Prime}
 use Rattle.curve_laws.proofs.Divisors.{prime-by-trial}
 use Rattle.curve_laws.proofs.Pocklington.{pocklington, pocklington-two}
+
+-- ---- the modulus of SECP160R1
 
 prime-745013 : Prime 745013
 prime-745013 = prime-by-trial 745013 862 (tt, tt, tt)
@@ -24,20 +26,22 @@ pub p160-prime : Prime (SECP160R1 .p)
 unfolding SECP160R1
 p160-prime = pocklington 160 (SECP160R1 .p) 176070659401435712181211511 2 prime-176070659401435712181211511 (tt, tt, tt) tt tt
 
+-- ---- the modulus of SECP256R1
+
 prime-704251 : Prime 704251
 prime-704251 = prime-by-trial 704251 838 (tt, tt, tt)
 
 prime-18169 : Prime 18169
 prime-18169 = prime-by-trial 18169 133 (tt, tt, tt)
 
+prime-46076956964474543 : Prime 46076956964474543
+prime-46076956964474543 = pocklington-two 56 46076956964474543 704251 2 18169 2 prime-704251 (tt, tt, tt) prime-18169 (tt, tt, tt) tt tt tt
+
 prime-3769 : Prime 3769
 prime-3769 = prime-by-trial 3769 60 (tt, tt, tt)
 
 prime-11 : Prime 11
 prime-11 = prime-by-trial 11 2 (tt, tt, tt)
-
-prime-46076956964474543 : Prime 46076956964474543
-prime-46076956964474543 = pocklington-two 56 46076956964474543 704251 2 18169 2 prime-704251 (tt, tt, tt) prime-18169 (tt, tt, tt) tt tt tt
 
 prime-204061199 : Prime 204061199
 prime-204061199 = pocklington-two 28 204061199 3769 2 11 3 prime-3769 (tt, tt, tt) prime-11 (tt, tt, tt) tt tt tt
@@ -54,3 +58,54 @@ prime-835945042244614951780389953367877943453916927241 = pocklington 160 8359450
 pub p256-prime : Prime (SECP256R1 .p)
 unfolding SECP256R1
 p256-prime = pocklington 256 (SECP256R1 .p) 835945042244614951780389953367877943453916927241 2 prime-835945042244614951780389953367877943453916927241 (tt, tt, tt) tt tt
+
+-- ---- the order of SECP160R1
+
+prime-1281221 : Prime 1281221
+prime-1281221 = prime-by-trial 1281221 1130 (tt, tt, tt)
+
+prime-497551 : Prime 497551
+prime-497551 = prime-by-trial 497551 704 (tt, tt, tt)
+
+prime-81596517090689 : Prime 81596517090689
+prime-81596517090689 = pocklington-two 47 81596517090689 1281221 2 497551 2 prime-1281221 (tt, tt, tt) prime-497551 (tt, tt, tt) tt tt tt
+
+prime-1786087 : Prime 1786087
+prime-1786087 = prime-by-trial 1786087 1335 (tt, tt, tt)
+
+prime-32965410909254210768022022994233 : Prime 32965410909254210768022022994233
+prime-32965410909254210768022022994233 = pocklington-two 105 32965410909254210768022022994233 81596517090689 2 1786087 2 prime-81596517090689 (tt, tt, tt) prime-1786087 (tt, tt, tt) tt tt tt
+
+pub n160-prime : Prime (SECP160R1 .n)
+unfolding SECP160R1
+n160-prime = pocklington 161 (SECP160R1 .n) 32965410909254210768022022994233 2 prime-32965410909254210768022022994233 (tt, tt, tt) tt tt
+
+-- ---- the order of SECP256R1
+
+prime-155317 : Prime 155317
+prime-155317 = prime-by-trial 155317 393 (tt, tt, tt)
+
+prime-191039911 : Prime 191039911
+prime-191039911 = pocklington 28 191039911 155317 2 prime-155317 (tt, tt, tt) tt tt
+
+prime-3023 : Prime 3023
+prime-3023 = prime-by-trial 3023 53 (tt, tt, tt)
+
+prime-208150935158385979 : Prime 208150935158385979
+prime-208150935158385979 = pocklington-two 58 208150935158385979 191039911 2 3023 2 prime-191039911 (tt, tt, tt) prime-3023 (tt, tt, tt) tt tt tt
+
+prime-2624747550333869278416773953 : Prime 2624747550333869278416773953
+prime-2624747550333869278416773953 = pocklington 92 2624747550333869278416773953 208150935158385979 2 prime-208150935158385979 (tt, tt, tt) tt tt
+
+prime-104471 : Prime 104471
+prime-104471 = prime-by-trial 104471 322 (tt, tt, tt)
+
+prime-3969899 : Prime 3969899
+prime-3969899 = pocklington 22 3969899 104471 2 prime-104471 (tt, tt, tt) tt tt
+
+prime-1002328039319 : Prime 1002328039319
+prime-1002328039319 = pocklington 40 1002328039319 3969899 2 prime-3969899 (tt, tt, tt) tt tt
+
+pub n256-prime : Prime (SECP256R1 .n)
+unfolding SECP256R1
+n256-prime = pocklington-two 256 (SECP256R1 .n) 2624747550333869278416773953 2 1002328039319 2 prime-2624747550333869278416773953 (tt, tt, tt) prime-1002328039319 (tt, tt, tt) tt tt tt

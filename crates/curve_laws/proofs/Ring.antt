@@ -10,6 +10,7 @@ use native.Mathlib.Nat.{mul-zero}
 use lib.ListN.{getD}
 use lib.Dec.{T, eqb, eqb→eq}
 use Rattle.curve_laws.specs.Modulo.{plus, times, minus}
+use Rattle.curve_laws.proofs.Tests.{both}
 use Rattle.curve_laws.proofs.Modular.{Same, same, same-eq, back, _then_, drops, multiple-of, sums, products, cancel-sum}
 use Rattle.curve_laws.proofs.Modulo.{plus-same, times-same, minus-same, minus-zero, minus-none, none-minus}
 
@@ -85,14 +86,6 @@ normal (e ⊗ f) = multiply (normal e) (normal f)
 abbrev vanishing : Poly → Bool
 vanishing (constant c d) = eqb c d
 vanishing (step h t) = vanishing h && vanishing t
-
-both-left : (a b : Bool) → T (a && b) → T a
-both-left true b t = tt
-both-left false b t = t
-
-both-right : (a b : Bool) → T (a && b) → T b
-both-right true b t = t
-both-right false b t = absurd t
 
 -- the test: every coefficient is 0
 abbrev pub Vanishes : Expr → Type 0
@@ -202,9 +195,9 @@ module _ (q : ℕ) where
   unfolding worth
   vanishing-worth ρ (constant c d) t =
       let e : c ≡ d = eqb→eq c d t in same-eq (omega (arith, e, ap (λ (n : ℕ). q * n) e)) then multiple-of (suc q) d
-  vanishing-worth ρ (step h t) both =
-      sums (vanishing-worth (others ρ) h (both-left (vanishing h) (vanishing t) both))
-      (products (same (first ρ)) (vanishing-worth ρ t (both-right (vanishing h) (vanishing t) both)))
+  vanishing-worth ρ (step h t) all =
+      sums (vanishing-worth (others ρ) h (both (vanishing h) (vanishing t) all .0))
+      (products (same (first ρ)) (vanishing-worth ρ t (both (vanishing h) (vanishing t) all .1)))
       then same-eq (omega arith)
 
 -- ---- the laws to cite: identities, and what follows from expressions that are 0

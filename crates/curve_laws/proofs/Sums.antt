@@ -12,7 +12,7 @@ use borrow.Author.Tests.{eqb-true, eqb-false, eq-eqb, ne-eqb}
 use Rattle.curve_laws.specs.Modulo.{plus, times, minus}
 use Rattle.curve_laws.specs.Points.{Point, infinity, at, OnCurve, equation, third, thirdX, thirdY, chord, tangent, double, add}
 use Rattle.curve_laws.proofs.Modular.{Same, same, same-eq, back, _then_, settle}
-use Rattle.curve_laws.proofs.Prime.{Prime}
+use Rattle.curve_laws.specs.Valid.{Prime}
 use Rattle.curve_laws.proofs.Modulo.{none-minus}
 use Rattle.curve_laws.proofs.Ring.{Expr, var, num, _⊕_, _⊖_, _⊗_, none, _⊞_, _⊟_, _⊡_, gap, combined, follows}
 use Rattle.curve_laws.proofs.Field.{NonZero, positive, same?, zero-product, zero-factor, below-zero, below-nonzero}

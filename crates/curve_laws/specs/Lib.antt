@@ -1,3 +1,4 @@
 pub mod Modulo
 pub mod Points
 pub mod Curves
+pub mod Valid

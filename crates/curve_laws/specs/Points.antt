@@ -23,10 +23,14 @@ OnCurve p a b (at x y) = (x < p) × (y < p) × equation p a b x y
 unfoldable pub discriminant : ℕ → ℕ → ℕ → ℕ
 discriminant p a b = plus p (times p 4 (times p a (times p a a))) (times p 27 (times p b b))
 
--- the x coordinate; that of infinity counts as 0
+-- the coordinates; those of infinity count as 0
 unfoldable pub xOf : Point → ℕ
 xOf infinity = 0
 xOf (at x y) = x
+
+unfoldable pub yOf : Point → ℕ
+yOf infinity = 0
+yOf (at x y) = y
 
 -- Rules 4 and 5, for the line with slope l through (x₁, y₁) and a point at x₂:
 -- x₃ = l² - x₁ - x₂, y₃ = l (x₁ - x₃) - y₁
