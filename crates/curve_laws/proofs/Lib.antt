@@ -20,3 +20,5 @@ pub mod Multiples
 pub mod Binary
 pub mod Known
 pub mod Valid
+pub mod Scalar
+pub mod Published

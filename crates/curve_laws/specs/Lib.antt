@@ -2,3 +2,4 @@ pub mod Modulo
 pub mod Points
 pub mod Curves
 pub mod Valid
+pub mod Published
