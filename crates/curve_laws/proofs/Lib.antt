@@ -22,3 +22,4 @@ pub mod Known
 pub mod Valid
 pub mod Scalar
 pub mod Published
+pub mod Loops

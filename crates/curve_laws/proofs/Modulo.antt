@@ -5,7 +5,7 @@ use Prim.Native.Nat.{ℕ, zero, suc, _+_, _-_, _*_, _/_, _%_, _^_, _<_}
 use native.Mathlib.Omega.{arith}
 use native.Mathlib.Nat.{mod-lt, div-add-mod', zero-mod, mul-zero, zero-mul}
 use Rattle.curve_laws.specs.Modulo.{plus, times, minus, power, inverse, over}
-use Rattle.curve_laws.proofs.Modular.{Same, same, same-eq, back, _then_, rest-of, drops, multiple-of, sums, products, cancel-sum}
+use Rattle.curve_laws.proofs.Modular.{Same, same, same-eq, back, _then_, rest-of, drops, multiple-of, sums, products, powers, cancel-sum}
 
 pub plus-same : (p a b : ℕ) → Same p (plus p a b) (a + b)
 unfolding plus
@@ -18,6 +18,23 @@ times-same p a b = rest-of p (a * b)
 pub power-same : (p a n : ℕ) → Same p (power p a n) (a ^ n)
 unfolding power
 power-same p a n = rest-of p (a ^ n)
+
+-- the operations read their arguments modulo p
+pub plus-reads : {p a b c d : ℕ} → Same p a b → Same p c d → plus p a c ≡ plus p b d
+unfolding plus
+plus-reads s t = sums s t .rest
+
+pub times-reads : {p a b c d : ℕ} → Same p a b → Same p c d → times p a c ≡ times p b d
+unfolding times
+times-reads s t = products s t .rest
+
+pub minus-reads : {p a b c d : ℕ} → Same p a b → Same p c d → minus p a c ≡ minus p b d
+unfolding minus
+minus-reads {p} s t = sums s (same-eq (ap (λ (n : ℕ). p - n) (t .rest))) .rest
+
+pub power-reads : {p a b : ℕ} → Same p a b → (n : ℕ) → power p a n ≡ power p b n
+unfolding power
+power-reads s n = powers s n .rest
 
 pub times-zero : {p b : ℕ} (a : ℕ) → Same p b 0 → Same p (times p a b) 0
 times-zero {p} {b} a z = times-same p a b then products (same a) z then same-eq (mul-zero a)
