@@ -1,20 +1,20 @@
 -- Adding a point (x₂, y₂) in Jacobian coordinates is addition of points. H = (x₂ - x₁) Z² and R = (y₂ - y₁) Z³ say which rule applies; with the
 -- chord's slope l kept as an unknown, R = l Z', X H² = x₁ Z'² and Y H³ = y₁ Z'³, and the last step is that of doubling.
-use mathlib.Core.Path.{_≡_, refl, sym, ap, _∙_}
+use mathlib.Core.Path.{_≡_, refl, sym, ap}
 use mathlib.Core.Bool.{Bool, true, false, cond, _&&_}
 use mathlib.Core.List.{List, [], _∷_}
-use Prim.Native.Nat.{ℕ, zero, suc, _<_}
+use Prim.Native.Nat.{ℕ, _<_}
 use native.Mathlib.Omega.{arith}
 use lib.Dec.{eqb}
 use borrow.Author.Tests.{eqb-true, eqb-false, eq-eqb, ne-eqb}
-use Rattle.curve_laws.specs.Modulo.{plus, times, minus, over}
-use Rattle.curve_laws.specs.Points.{Point, infinity, at, third, thirdX, thirdY, chord, double, add}
-use Rattle.curve_laws.proofs.Modular.{Same, same, same-eq, back, _then_, settle}
+use Rattle.curve_laws.specs.Modulo.{plus, times, minus}
+use Rattle.curve_laws.specs.Points.{Point, infinity, at, third, thirdX, chord, double, add}
+use Rattle.curve_laws.proofs.Modular.{Same, same-eq, back, _then_, settle}
 use Rattle.curve_laws.specs.Valid.{Prime}
 use Rattle.curve_laws.proofs.Modulo.{times-below, minus-below, zero-times, minus-none, none-minus}
 use Rattle.curve_laws.proofs.Ring.{Expr, var, num, _⊕_, _⊖_, _⊗_, _⊞_, _⊟_, _⊡_, gap, identity, follows}
 use Rattle.curve_laws.proofs.Field.{NonZero, positive, over-times, times-nonzero, below-zero, below-nonzero}
-use Rattle.curve_laws.proofs.Jacobian.{Triple, triple, Below, Stands, lastY, doubled, addH, addR, addX, addWith, added}
+use Rattle.curve_laws.proofs.Jacobian.{Triple, triple, Below, Stands, doubled, addH, addR, addX, addWith, added}
 use Rattle.curve_laws.proofs.Doubling.{square, cube, last-step, doubling}
 
 -- the unknowns of the identities

@@ -1,20 +1,20 @@
 -- The binary method in Jacobian coordinates computes the x coordinate of r times G, for every r of so many bits.
-use mathlib.Core.Path.{_≡_, refl, sym, ap, _∙_}
+use mathlib.Core.Path.{_≡_, refl}
 use mathlib.Core.Bool.{Bool, true, false, cond}
 use mathlib.Core.List.{List, [], _∷_}
-use Prim.Native.Nat.{ℕ, zero, suc, _+_, _*_, _/_, _%_, _^_, _<_}
+use Prim.Native.Nat.{ℕ, zero, suc, _/_, _%_, _^_, _<_}
 use native.Mathlib.Omega.{arith}
 use lib.Dec.{eqb}
 use Rattle.curve_laws.specs.Modulo.{plus, times, inverse, over}
 use Rattle.curve_laws.specs.Points.{Point, infinity, at, xOf, OnCurve, discriminant, double, add, total}
-use Rattle.curve_laws.proofs.Modular.{Same, same-eq, back, _then_, settle}
+use Rattle.curve_laws.proofs.Modular.{Same, same-eq, settle}
 use Rattle.curve_laws.specs.Valid.{Prime}
 use Rattle.curve_laws.proofs.Modulo.{times-below, times-zero}
 use Rattle.curve_laws.proofs.Field.{NonZero, positive, inverse-zero, over-times, times-nonzero, below-zero, follows-divided}
-use Rattle.curve_laws.proofs.Ring.{var, num, _⊕_, _⊖_, _⊗_, _⊟_, gap}
+use Rattle.curve_laws.proofs.Ring.{var, _⊗_, _⊟_, gap}
 use Rattle.curve_laws.proofs.Sums.{add-on}
 use Rattle.curve_laws.proofs.Multiples.{add-self, total-zero, total-on, total-half}
-use Rattle.curve_laws.proofs.Jacobian.{Triple, triple, Below, Stands, doubled, added, turn, binary, affineX}
+use Rattle.curve_laws.proofs.Jacobian.{Triple, Below, Stands, doubled, added, turn, binary, affineX}
 use Rattle.curve_laws.proofs.Doubling.{doubling}
 use Rattle.curve_laws.proofs.Adding.{adding}
 

@@ -1,20 +1,20 @@
 -- Jacobian doubling is doubling of points, for a = p - 3. With the tangent's slope l kept as an unknown, M = l Z', S = x Z'² and
 -- 8 Y⁴ = y Z'³, from which X' and Y' follow; the last step serves addition too.
-use mathlib.Core.Path.{_≡_, refl, sym, ap, _∙_}
+use mathlib.Core.Path.{_≡_, refl}
 use mathlib.Core.Bool.{Bool, true, false, cond}
 use mathlib.Core.List.{List, [], _∷_}
-use Prim.Native.Nat.{ℕ, zero, suc, _+_, _*_, _<_}
+use Prim.Native.Nat.{ℕ, _<_}
 use native.Mathlib.Omega.{arith}
 use lib.Dec.{eqb}
 use borrow.Author.Tests.{eqb-true, eqb-false}
-use Rattle.curve_laws.specs.Modulo.{plus, times, minus, over}
+use Rattle.curve_laws.specs.Modulo.{plus, times}
 use Rattle.curve_laws.specs.Points.{Point, infinity, at, third, thirdX, thirdY, tangent, double}
-use Rattle.curve_laws.proofs.Modular.{Same, same, same-eq, back, _then_}
+use Rattle.curve_laws.proofs.Modular.{Same, same-eq, back, _then_}
 use Rattle.curve_laws.specs.Valid.{Prime}
 use Rattle.curve_laws.proofs.Modulo.{times-below, times-zero, zero-times}
 use Rattle.curve_laws.proofs.Ring.{Expr, var, num, _⊕_, _⊖_, _⊗_, _⊞_, _⊟_, _⊡_, gap, follows}
 use Rattle.curve_laws.proofs.Field.{NonZero, positive, over-times, times-nonzero, below-zero, below-nonzero}
-use Rattle.curve_laws.proofs.Jacobian.{Triple, triple, Below, Stands, doubleM, doubleS, doubleX, doubleZ, fourthY, lastY, doubleWith, doubled}
+use Rattle.curve_laws.proofs.Jacobian.{Triple, Below, Stands, doubleM, doubleS, doubleX, doubleZ, fourthY, lastY, doubleWith, doubled}
 
 abbrev pub square : Expr → Expr
 square e = e ⊗ e

@@ -4,8 +4,8 @@ use mathlib.Core.Path.{_≡_, refl, sym, ap, _∙_}
 use mathlib.Core.Logic.{_≢_}
 use Prim.Native.Nat.{ℕ, zero, suc, _+_, _-_, _*_, _%_, _^_, _≤_, _<_}
 use native.Mathlib.Omega.{arith}
-use native.Mathlib.Nat.{mod-eq-of-lt, pow-zero, pow-suc, mul-zero, zero-mod}
-use Rattle.curve_laws.proofs.Modular.{Same, same, same-eq, back, _then_, multiple-of, sums, products}
+use native.Mathlib.Nat.{mod-eq-of-lt, pow-zero, pow-suc, mul-zero}
+use Rattle.curve_laws.proofs.Modular.{Same, same, same-eq, _then_, multiple-of, sums, products}
 use Rattle.curve_laws.specs.Valid.{Prime}
 use Rattle.curve_laws.proofs.Prime.{no-zero-product, cancel-factor}
 
@@ -47,7 +47,7 @@ choose-zero k = refl
 
 absorbs : (n k : ℕ) → suc k * choose (suc n) (suc k) ≡ suc n * choose n k
 absorbs zero zero = rw (choose-step, choose-first, choose-zero)
-absorbs zero (suc k) = rw (choose-step, choose-zero, choose-zero) (mul-zero (suc (suc k)))
+absorbs zero (suc k) = rw (choose-step, choose-zero k, choose-zero (suc k)) (mul-zero (suc (suc k)))
 absorbs (suc n) zero =
     let ih : 1 * choose (suc n) 1 ≡ suc n * choose n zero = absorbs n zero in
     let e : choose (suc (suc n)) 1 ≡ choose (suc n) zero + choose (suc n) 1 = choose-step (suc n) zero in

@@ -3,10 +3,10 @@
 use mathlib.Core.Path.{_≡_, sym, ap, _∙_}
 use mathlib.Core.Logic.{_≢_, _⊎_, inl, inr}
 use mathlib.Core.List.{List}
-use Prim.Native.Nat.{ℕ, zero, suc, _+_, _-_, _*_, _%_, _^_, _≤_, _<_}
+use Prim.Native.Nat.{ℕ, suc, _-_, _%_, _^_, _<_}
 use native.Mathlib.Omega.{arith}
 use native.Mathlib.Decide.{ℕ-discrete}
-use native.Mathlib.Nat.{mod-lt, mod-eq-of-lt, zero-mod, pow-suc, mul-zero}
+use native.Mathlib.Nat.{mod-eq-of-lt, zero-mod, pow-suc, mul-zero}
 use Rattle.curve_laws.specs.Modulo.{times, power, inverse, over}
 use Rattle.curve_laws.proofs.Modular.{Same, same, same-eq, back, _then_, products}
 use Rattle.curve_laws.specs.Valid.{Prime}

@@ -1,15 +1,15 @@
 -- Addition of the points of a curve whose discriminant is not 0 is associative: by cases on which points are opposite, and on whether the
 -- lines through P₁, P₂ and through P₂, P₃ have the same slope.
-use mathlib.Core.Path.{_≡_, refl, sym, ap, ap₂, _∙_}
+use mathlib.Core.Path.{_≡_, sym, ap, ap₂, _∙_}
 use mathlib.Core.List.{List, [], _∷_}
 use Prim.Native.Nat.{ℕ, _<_}
 use native.Mathlib.Decide.{ℕ-discrete}
-use Rattle.curve_laws.specs.Modulo.{plus, times, minus, over}
+use Rattle.curve_laws.specs.Modulo.{times, minus, over}
 use Rattle.curve_laws.specs.Points.{Point, infinity, at, OnCurve, discriminant, third, thirdX, thirdY, add}
-use Rattle.curve_laws.proofs.Modular.{Same, same-eq, back, _then_, settle}
+use Rattle.curve_laws.proofs.Modular.{Same, same-eq, back, settle}
 use Rattle.curve_laws.specs.Valid.{Prime}
-use Rattle.curve_laws.proofs.Modulo.{minus-none, none-minus}
-use Rattle.curve_laws.proofs.Ring.{var, num, _⊕_, _⊖_, _⊗_, none, _⊟_, gap, combined, follows}
+use Rattle.curve_laws.proofs.Modulo.{none-minus}
+use Rattle.curve_laws.proofs.Ring.{var, num, _⊕_, _⊖_, _⊗_, none, _⊟_, gap, follows}
 use Rattle.curve_laws.proofs.Field.{NonZero, positive, same?, over-times}
 use Rattle.curve_laws.proofs.Lines.{Line, flip, resloped, onward, third-X-below, third-is, thirds, third-flip, slopes}
 use Rattle.curve_laws.proofs.Sums.{add-left, add-right, Opposite, opposite?, opposite-back, add-opposite, differing, slope, slope-line, add-slope, add-line, third-point-on, add-on, add-comm}
@@ -212,7 +212,7 @@ module _ {p : ℕ} (P : Prime p) (odd : 2 < p) (a b : ℕ) (smooth : NonZero p (
 
   pub add-assoc : (Q R S : Point) → OnCurve p a b Q → OnCurve p a b R → OnCurve p a b S
       → add p a (add p a Q R) S ≡ add p a Q (add p a R S)
-  add-assoc infinity R S on on' on'' = rw (add-left, add-left)
+  add-assoc infinity R S on on' on'' = rw (add-left p a R, add-left p a (add p a R S))
   add-assoc (at x y) infinity S on on' on'' = rw (add-right, add-left)
   add-assoc (at x y) (at x' y') infinity on on' on'' =
       add-right p a (add p a (at x y) (at x' y')) ∙ ap (λ (Q : Point). add p a (at x y) Q) (sym (add-right p a (at x' y')))

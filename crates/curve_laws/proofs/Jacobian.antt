@@ -3,7 +3,7 @@
 -- join them to SEC 1's rules are in Doubling, Adding and Binary.
 use Prim.Native.Nat.{ℕ, zero, suc, _/_, _%_, _<_}
 use mathlib.Core.Path.{_≡_}
-use mathlib.Core.Bool.{Bool, cond, _&&_}
+use mathlib.Core.Bool.{cond, _&&_}
 use lib.Dec.{eqb}
 use Rattle.curve_laws.specs.Modulo.{plus, times, minus, over}
 use Rattle.curve_laws.specs.Points.{Point, infinity, at}

@@ -1,18 +1,17 @@
 -- A multiple of a point that antt computes by the binary method is the multiple: a triple stands for one point only, so that products decide
 -- which, with no inversion.
-use mathlib.Core.Path.{_≡_, refl, sym, ap₂, _∙_}
-use mathlib.Core.Bool.{Bool, true, false, _&&_}
+use mathlib.Core.Path.{_≡_, refl, ap₂}
+use mathlib.Core.Bool.{Bool, _&&_}
 use mathlib.Core.List.{List, [], _∷_}
-use Prim.Native.Nat.{ℕ, zero, suc, _^_, _<_}
-use native.Mathlib.Omega.{arith}
+use Prim.Native.Nat.{ℕ, _^_, _<_}
 use lib.Dec.{T, eqb, ltb, ltb→lt, eqb→eq}
 use Rattle.curve_laws.specs.Modulo.{plus, times}
 use Rattle.curve_laws.specs.Points.{Point, infinity, at, OnCurve, discriminant, total}
 use Rattle.curve_laws.specs.Valid.{Prime}
 use Rattle.curve_laws.proofs.Tests.{both}
-use Rattle.curve_laws.proofs.Modular.{Same, same-eq, back, _then_, settle}
+use Rattle.curve_laws.proofs.Modular.{Same, same-eq, settle}
 use Rattle.curve_laws.proofs.Field.{NonZero, positive, times-nonzero, below-nonzero, follows-divided}
-use Rattle.curve_laws.proofs.Ring.{var, num, _⊕_, _⊖_, _⊗_, _⊟_, gap}
+use Rattle.curve_laws.proofs.Ring.{var, _⊗_, _⊟_, gap}
 use Rattle.curve_laws.proofs.Multiples.{total-on}
 use Rattle.curve_laws.proofs.Jacobian.{Triple, Below, Stands, binary}
 use Rattle.curve_laws.proofs.Binary.{below-of, binary-stands}

@@ -1,13 +1,13 @@
 -- A line through two points of a curve, chord or tangent alike, by two equations of its slope l: the rise l (x₂ - x₁) = y₂ - y₁, and the turn
 -- l (y₁ + y₂) = x₁² + x₁ x₂ + x₂² + a, which follows from the rise on the curve where x₁ and x₂ differ. Points that are not opposite have one such slope; the third
 -- point is on the curve; and the line goes through it as through the others.
-use mathlib.Core.Path.{_≡_, refl, sym, ap, ap₂, _∙_}
+use mathlib.Core.Path.{_≡_, ap₂}
 use mathlib.Core.List.{List, [], _∷_}
-use Prim.Native.Nat.{ℕ, zero, suc, _<_}
+use Prim.Native.Nat.{ℕ, _<_}
 use native.Mathlib.Omega.{arith}
-use Rattle.curve_laws.specs.Modulo.{plus, times, minus, over}
-use Rattle.curve_laws.specs.Points.{Point, infinity, at, equation, third, thirdX, thirdY, chord, tangent}
-use Rattle.curve_laws.proofs.Modular.{Same, same, same-eq, back, _then_, settle}
+use Rattle.curve_laws.specs.Modulo.{plus, times, minus}
+use Rattle.curve_laws.specs.Points.{at, equation, third, thirdX, thirdY, chord, tangent}
+use Rattle.curve_laws.proofs.Modular.{Same, same-eq, settle}
 use Rattle.curve_laws.specs.Valid.{Prime}
 use Rattle.curve_laws.proofs.Modulo.{plus-below, times-below, minus-below, none-minus}
 use Rattle.curve_laws.proofs.Ring.{Expr, var, num, _⊕_, _⊖_, _⊗_, value, Zero, none, _⊞_, _⊟_, _⊡_, gap, combined, follows}

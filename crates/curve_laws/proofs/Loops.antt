@@ -1,7 +1,7 @@
 -- What code that goes over bits from the top needs: one turn of the power, one turn of the binary method, and small multiples by sums.
 use mathlib.Core.Path.{_≡_, refl, sym, ap, _∙_}
 use mathlib.Core.Bool.{Bool, true, false, cond}
-use Prim.Native.Nat.{ℕ, zero, suc, _+_, _*_, _/_, _%_, _^_, _<_}
+use Prim.Native.Nat.{ℕ, suc, _+_, _*_, _/_, _%_, _^_, _<_}
 use native.Mathlib.Omega.{arith}
 use native.Mathlib.Nat.{pow-zero}
 use lib.Dec.{eqb}
@@ -11,7 +11,7 @@ use Rattle.curve_laws.specs.Modulo.{plus, times, power}
 use Rattle.curve_laws.proofs.Modular.{Same, same, same-eq, back, _then_, rest-of, sums, products, settle}
 use Rattle.curve_laws.proofs.Modulo.{plus-same, plus-below, times-same, times-below}
 use Rattle.curve_laws.proofs.Powers.{power-one}
-use Rattle.curve_laws.proofs.Jacobian.{Triple, triple, turn, binary}
+use Rattle.curve_laws.proofs.Jacobian.{triple, turn, binary}
 
 -- ---- powers
 

@@ -1,9 +1,9 @@
 -- Equality modulo m, as a record so that its numbers are inferred: an equivalence that sums, products and powers respect. Multiples of m
 -- vanish, and what is added on both sides cancels.
 use mathlib.Core.Path.{_≡_, refl, sym, ap, _∙_}
-use Prim.Native.Nat.{ℕ, zero, suc, _+_, _-_, _*_, _/_, _%_, _^_, _≤_, _<_}
+use Prim.Native.Nat.{ℕ, zero, suc, _+_, _-_, _*_, _/_, _%_, _^_, _<_}
 use native.Mathlib.Omega.{arith}
-use native.Mathlib.Nat.{mod-lt, mod-mod, mod-eq-of-lt, mod-add-mod, add-mod-mod, div-add-mod', add-mul-mod-self-right, pow-zero, pow-suc, mul-mod-left}
+use native.Mathlib.Nat.{mod-lt, mod-mod, mod-eq-of-lt, mod-add-mod, div-add-mod', add-mul-mod-self-right, pow-zero, pow-suc}
 
 pub record Same (m a b : ℕ) : Type 0 where
   pub rest : a % m ≡ b % m

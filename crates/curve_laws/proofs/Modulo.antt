@@ -1,10 +1,10 @@
 -- The operations modulo p stand for those of numbers: each result is below p, and modulo p it is the sum, the product, the power, or for the
 -- difference the sum with p - 1 times the subtrahend.
-use mathlib.Core.Path.{_≡_, sym, ap, _∙_}
-use Prim.Native.Nat.{ℕ, zero, suc, _+_, _-_, _*_, _/_, _%_, _^_, _<_}
+use mathlib.Core.Path.{_≡_, ap, _∙_}
+use Prim.Native.Nat.{ℕ, _+_, _-_, _*_, _/_, _%_, _^_, _<_}
 use native.Mathlib.Omega.{arith}
 use native.Mathlib.Nat.{mod-lt, div-add-mod', zero-mod, mul-zero, zero-mul}
-use Rattle.curve_laws.specs.Modulo.{plus, times, minus, power, inverse, over}
+use Rattle.curve_laws.specs.Modulo.{plus, times, minus, power}
 use Rattle.curve_laws.proofs.Modular.{Same, same, same-eq, back, _then_, rest-of, drops, multiple-of, sums, products, powers, cancel-sum}
 
 pub plus-same : (p a b : ℕ) → Same p (plus p a b) (a + b)

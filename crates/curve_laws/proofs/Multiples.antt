@@ -1,6 +1,6 @@
 -- Multiples of a point G of a curve: they are on the curve, r + s times G is the sum of both, and so the multiple by r comes from that by
 -- r / 2: doubled, and G added where r is odd.
-use mathlib.Core.Path.{_≡_, refl, sym, ap, _∙_}
+use mathlib.Core.Path.{_≡_, refl, ap, _∙_}
 use mathlib.Core.Bool.{Bool, true, false, cond}
 use Prim.Native.Nat.{ℕ, zero, suc, _+_, _/_, _%_, _<_}
 use native.Mathlib.Omega.{arith}
@@ -10,7 +10,7 @@ use borrow.Author.Tests.{eqb-true, eqb-false, eq-eqb}
 use Rattle.curve_laws.specs.Points.{Point, infinity, at, OnCurve, discriminant, double, add, total}
 use Rattle.curve_laws.specs.Valid.{Prime}
 use Rattle.curve_laws.proofs.Field.{NonZero}
-use Rattle.curve_laws.proofs.Sums.{add-left, add-right, add-on}
+use Rattle.curve_laws.proofs.Sums.{add-right, add-on}
 use Rattle.curve_laws.proofs.Group.{add-assoc}
 
 pub add-self : (p a : ℕ) (Q : Point) → add p a Q Q ≡ double p a Q
@@ -35,7 +35,7 @@ module _ {p : ℕ} (P : Prime p) (odd : 2 < p) (a b : ℕ) (smooth : NonZero p (
   pub total-sum : (r s : ℕ) → total p a (r + s) G ≡ add p a (total p a r G) (total p a s G)
   total-sum r zero = rw (add-zero, total-zero, add-right)
   total-sum r (suc s) =
-      rw (add-suc, total-suc, total-suc, total-sum r s) (add-assoc P odd a b smooth (total p a r G) (total p a s G) G (total-on r) (total-on s) on)
+      rw (add-suc, total-suc p a (r + s) G, total-suc p a s G, total-sum r s) (add-assoc P odd a b smooth (total p a r G) (total p a s G) G (total-on r) (total-on s) on)
 
   pub total-half : (r : ℕ) → total p a r G
       ≡ cond (eqb (r % 2) 0) (double p a (total p a (r / 2) G)) (add p a (double p a (total p a (r / 2) G)) G)

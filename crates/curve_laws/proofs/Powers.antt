@@ -2,9 +2,9 @@
 use mathlib.Core.Path.{_≡_, refl, sym, ap, _∙_}
 use Prim.Native.Nat.{ℕ, zero, suc, _+_, _*_, _/_, _%_, _^_, _<_}
 use native.Mathlib.Omega.{arith}
-use native.Mathlib.Nat.{pow-zero, pow-suc, mul-zero, mul-suc, div-add-mod'}
+use native.Mathlib.Nat.{pow-zero, pow-suc, mul-zero, mul-suc}
 use lib.Pow.{pow-add}
-use Rattle.curve_laws.proofs.Modular.{Same, same, same-eq, back, _then_, rest-of, products, powers}
+use Rattle.curve_laws.proofs.Modular.{Same, same, same-eq, _then_, rest-of, products}
 
 pub power-one : (a : ℕ) → a ^ 1 ≡ a
 power-one a = pow-suc a zero ∙ ap (λ (x : ℕ). x * a) (pow-zero a) ∙ omega arith

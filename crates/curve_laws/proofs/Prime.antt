@@ -1,13 +1,13 @@
 -- Primes: more than 1, and no divisor between. Modulo a prime every number but 0 has an inverse (from that of the remainder p % a, which
 -- is smaller), so that products of numbers other than 0 are not 0, and factors other than 0 cancel.
-use mathlib.Core.Path.{_≡_, refl, sym, ap, _∙_}
+use mathlib.Core.Path.{_≡_, sym, ap, _∙_}
 use mathlib.Core.Logic.{_≢_}
 use Prim.Native.Nat.{ℕ, zero, suc, _+_, _-_, _*_, _/_, _%_, _≤_, _<_}
 use native.Mathlib.Omega.{arith}
-use native.Mathlib.Decide.{decLt, ℕ-discrete}
-use native.Mathlib.Nat.{mod-lt, div-add-mod', mod-mod, mod-zero, mul-one}
+use native.Mathlib.Decide.{decLt}
+use native.Mathlib.Nat.{mod-lt, div-add-mod', mul-one}
 use Rattle.curve_laws.specs.Valid.{Prime}
-use Rattle.curve_laws.proofs.Modular.{Same, same, same-eq, back, _then_, rest-of, drops, multiple-of, sums, products, cancel-sum}
+use Rattle.curve_laws.proofs.Modular.{Same, same, same-eq, back, _then_, rest-of, multiple-of, products, cancel-sum}
 
 pub record Inverted (p a : ℕ) : Type 0 where
   pub by : ℕ

@@ -1,6 +1,6 @@
 -- The moduli and the orders of both curves are prime: chains of certificates, from small primes by trial division. A certificate is a prime f
 -- of n - 1 (or two) with a base for it; antt computes its tests.
-use Rattle.curve_laws.specs.Curves.{Curve, SECP160R1, SECP256R1}
+use Rattle.curve_laws.specs.Curves.{SECP160R1, SECP256R1}
 use Rattle.curve_laws.specs.Valid.{Prime}
 use Rattle.curve_laws.proofs.Divisors.{prime-by-trial}
 use Rattle.curve_laws.proofs.Pocklington.{pocklington, pocklington-two}

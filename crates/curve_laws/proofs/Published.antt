@@ -5,7 +5,7 @@ use mathlib.Core.List.{List, [], _∷_}
 use Prim.Native.Nat.{ℕ, _+_, _^_}
 use lib.Dec.{T, ltb, ltb→lt}
 use Rattle.curve_laws.specs.Modulo.{plus, times, minus}
-use Rattle.curve_laws.specs.Points.{Point, xOf, yOf}
+use Rattle.curve_laws.specs.Points.{xOf, yOf}
 use Rattle.curve_laws.specs.Curves.{Curve, SECP160R1, SECP256R1}
 use Rattle.curve_laws.specs.Valid.{Valid}
 use Rattle.curve_laws.specs.Published.{Row, table160, table256, Holds, Published}

@@ -1,8 +1,8 @@
 -- Identities of expressions in plus, minus and times hold modulo every p, by one test that antt computes: the difference of the two
 -- sides, as a polynomial with a pair c, d for each coefficient c - d, has c = d throughout. A polynomial is a number, or its part without the
 -- first variable and that variable times the rest.
-use mathlib.Core.Path.{_≡_, refl, sym, ap, _∙_}
-use mathlib.Core.Bool.{Bool, true, false, _&&_}
+use mathlib.Core.Path.{_≡_, sym, ap}
+use mathlib.Core.Bool.{Bool, _&&_}
 use mathlib.Core.List.{List, [], _∷_}
 use Prim.Native.Nat.{ℕ, zero, suc, _+_, _-_, _*_, _<_}
 use native.Mathlib.Omega.{arith}
@@ -11,7 +11,7 @@ use lib.ListN.{getD}
 use lib.Dec.{T, eqb, eqb→eq}
 use Rattle.curve_laws.specs.Modulo.{plus, times, minus}
 use Rattle.curve_laws.proofs.Tests.{both}
-use Rattle.curve_laws.proofs.Modular.{Same, same, same-eq, back, _then_, drops, multiple-of, sums, products, cancel-sum}
+use Rattle.curve_laws.proofs.Modular.{Same, same, same-eq, back, _then_, multiple-of, sums, products, cancel-sum}
 use Rattle.curve_laws.proofs.Modulo.{plus-same, times-same, minus-same, minus-zero, minus-none, none-minus}
 
 -- an expression over variables by their places in a list

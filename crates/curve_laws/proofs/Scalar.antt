@@ -11,9 +11,9 @@ use Rattle.curve_laws.specs.Curves.{Curve, timesG, xTimesG}
 use Rattle.curve_laws.specs.Valid.{Prime, Valid}
 use Rattle.curve_laws.proofs.Prime.{inverts}
 use Rattle.curve_laws.proofs.Field.{NonZero}
-use Rattle.curve_laws.proofs.Sums.{add-left, add-right}
+use Rattle.curve_laws.proofs.Sums.{add-left}
 use Rattle.curve_laws.proofs.Multiples.{total-zero, total-suc, total-sum}
-use Rattle.curve_laws.proofs.Jacobian.{Triple, binary, affineX}
+use Rattle.curve_laws.proofs.Jacobian.{binary, affineX}
 use Rattle.curve_laws.proofs.Binary.{binary-x}
 use Rattle.curve_laws.proofs.Known.{meets, multiple-known}
 use Rattle.curve_laws.proofs.Valid.{minus-three, discriminant-nonzero}

@@ -1,20 +1,20 @@
 -- Addition of points by lines: the sum of opposite points is infinity; that of others is the third point of any line through both. So sums
 -- are on the curve, and the order of two points does not matter.
 use mathlib.Core.Path.{_≡_, refl, sym, ap, subst, _∙_}
-use mathlib.Core.Logic.{_⊎_, inl, inr, ⊎-elim}
+use mathlib.Core.Logic.{_⊎_, ⊎-elim}
 use mathlib.Core.Bool.{Bool, true, false, cond}
 use mathlib.Core.List.{List, [], _∷_}
-use Prim.Native.Nat.{ℕ, zero, suc, _<_}
+use Prim.Native.Nat.{ℕ, _<_}
 use native.Mathlib.Omega.{arith}
 use native.Mathlib.Decide.{ℕ-discrete}
 use lib.Dec.{eqb}
 use borrow.Author.Tests.{eqb-true, eqb-false, eq-eqb, ne-eqb}
-use Rattle.curve_laws.specs.Modulo.{plus, times, minus}
-use Rattle.curve_laws.specs.Points.{Point, infinity, at, OnCurve, equation, third, thirdX, thirdY, chord, tangent, double, add}
-use Rattle.curve_laws.proofs.Modular.{Same, same, same-eq, back, _then_, settle}
+use Rattle.curve_laws.specs.Modulo.{plus, minus}
+use Rattle.curve_laws.specs.Points.{Point, infinity, at, OnCurve, equation, third, thirdX, chord, tangent, double, add}
+use Rattle.curve_laws.proofs.Modular.{Same, same-eq, _then_, settle}
 use Rattle.curve_laws.specs.Valid.{Prime}
 use Rattle.curve_laws.proofs.Modulo.{none-minus}
-use Rattle.curve_laws.proofs.Ring.{Expr, var, num, _⊕_, _⊖_, _⊗_, none, _⊞_, _⊟_, _⊡_, gap, combined, follows}
+use Rattle.curve_laws.proofs.Ring.{var, num, _⊕_, _⊖_, _⊗_, none, _⊞_, _⊟_, _⊡_, gap, combined, follows}
 use Rattle.curve_laws.proofs.Field.{NonZero, positive, same?, zero-product, zero-factor, below-zero, below-nonzero}
 use Rattle.curve_laws.proofs.Lines.{Line, curve-of, flip, third-on, third-X-below, third-Y-below, third-same, third-flip, chord-line, tangent-line, slopes}
 

@@ -1,7 +1,6 @@
 -- Identities behind associativity. For lines of slopes l through P₁ and P₂ and m through P₂ and P₃, with S = P₁ + P₂: where l = m and P₁ and P₃
 -- have another x, S is opposite to P₃; else the t with t (m - l) = x₃ - x₁ makes t - l the slope of a line through S and P₃. And for P opposite to P₁, the
 -- line of slope -l through P and S leads back to P₂, unless P₁ is a singular point of the curve.
-use mathlib.Core.Path.{_≡_}
 use mathlib.Core.List.{List, [], _∷_}
 use Prim.Native.Nat.{ℕ, _<_}
 use native.Mathlib.Omega.{arith}
@@ -9,8 +8,8 @@ use Rattle.curve_laws.specs.Modulo.{plus, times, minus}
 use Rattle.curve_laws.specs.Points.{equation, discriminant, thirdX, thirdY}
 use Rattle.curve_laws.proofs.Modular.{Same}
 use Rattle.curve_laws.specs.Valid.{Prime}
-use Rattle.curve_laws.proofs.Ring.{Expr, var, num, _⊕_, _⊖_, _⊗_, value, Zero, none, _⊞_, _⊟_, _⊡_, gap, combined, follows}
-use Rattle.curve_laws.proofs.Field.{NonZero, positive, zero-product, below-nonzero, divided, follows-divided}
+use Rattle.curve_laws.proofs.Ring.{Expr, var, num, _⊕_, _⊖_, _⊗_, Zero, none, _⊞_, _⊟_, _⊡_, gap, combined, follows}
+use Rattle.curve_laws.proofs.Field.{NonZero, positive, below-nonzero, divided, follows-divided}
 use Rattle.curve_laws.proofs.Lines.{Line, rises, bends, newX, newY, rise-of, bend-of, curve-of, line-of, a, l, x₁, y₁, x₂, y₂, x₃, y₃, b, m}
 
 -- the parameter t

@@ -2,7 +2,7 @@
 use Prim.Native.Nat.{ℕ, _%_, _<_}
 use mathlib.Core.Path.{_≡_}
 use mathlib.Core.Logic.{_≢_}
-use Rattle.curve_laws.specs.Points.{Point, infinity, OnCurve, discriminant}
+use Rattle.curve_laws.specs.Points.{infinity, OnCurve, discriminant}
 use Rattle.curve_laws.specs.Curves.{Curve, timesG}
 
 -- more than 1, and no divisor between
