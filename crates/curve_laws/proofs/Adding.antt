@@ -9,11 +9,12 @@ use lib.Dec.{eqb}
 use borrow.Author.Tests.{eqb-true, eqb-false, eq-eqb, ne-eqb}
 use Rattle.curve_laws.specs.Modulo.{plus, times, minus}
 use Rattle.curve_laws.specs.Points.{Point, infinity, at, third, thirdX, chord, double, add}
-use Rattle.curve_laws.proofs.Modular.{Same, same-eq, back, _then_, settle}
 use Rattle.curve_laws.specs.Valid.{Prime}
-use Rattle.curve_laws.proofs.Modulo.{times-below, minus-below, zero-times, minus-none, none-minus}
+use Rattle.curve_laws.proofs.Modular.{Same, same-eq, back, _then_}
+use Rattle.curve_laws.proofs.Modulo.{times-below, minus-below, zero-times, minus-none}
 use Rattle.curve_laws.proofs.Ring.{Expr, var, num, _⊕_, _⊖_, _⊗_, _⊞_, _⊟_, _⊡_, gap, identity, follows}
-use Rattle.curve_laws.proofs.Field.{NonZero, positive, over-times, times-nonzero, below-zero, below-nonzero}
+use Rattle.curve_laws.proofs.Field.{NonZero, positive, times-nonzero, below-zero, below-nonzero}
+use Rattle.curve_laws.proofs.Slopes.{distinct, chord-slope}
 use Rattle.curve_laws.proofs.Jacobian.{Triple, triple, Below, Stands, doubled, addH, addR, addX, addWith, added}
 use Rattle.curve_laws.proofs.Doubling.{square, cube, last-step, doubling}
 
@@ -100,14 +101,6 @@ module _ {p : ℕ} (P : Prime p) (odd : 2 < p) (a₀ : ℕ) (hA : Same p (plus p
   h : 0 < p
   h = positive P
 
-  chord-slope : (x y x' y' : ℕ) → NonZero p (minus p x' x) → Same p (times p (chord p x y x' y') (minus p x' x)) (minus p y' y)
-  unfolding chord
-  chord-slope x y x' y' some = over-times P (minus p y' y) (minus p x' x) some
-
-  -- coordinates below p that differ have a difference
-  differ : {u v : ℕ} → u < p → v < p → (u ≡ v → ⊥) → NonZero p (minus p v u)
-  differ k m n z = n (sym (settle (none-minus h z) m k))
-
   -- rule 4
   through : (j : Triple) (x y x' y' : ℕ) → NonZero p (minus p x' x) → Stands p j (at x y)
       → Stands p (addWith p (addH p x' (j .X) (j .Z)) (addR p y' (j .Y) (j .Z)) j) (third p (chord p x y x' y') x y x')
@@ -121,7 +114,7 @@ module _ {p : ℕ} (P : Prime p) (odd : 2 < p) (a₀ : ℕ) (hA : Same p (plus p
       let k : ℕ = addH p x' (j .X) z in
       let r : ℕ = addR p y' (j .Y) z in
       let hH : Same p k (times p (minus p x' x) (times p z z)) = add-H h x y (j .X) (j .Y) z hX hY x' in
-      let hR : Same p r (times p t (times p k z)) = add-slope h x y (j .X) (j .Y) z hX hY t x' y' (chord-slope x y x' y' some) in
+      let hR : Same p r (times p t (times p k z)) = add-slope h x y (j .X) (j .Y) z hX hY t x' y' (chord-slope P x y x' y' some) in
       let hS : Same p (times p (j .X) (times p k k)) (times p x (times p (times p k z) (times p k z)))
       = add-S h x y (j .X) (j .Y) z hX hY k in
       let hW : Same p (times p (j .Y) (times p k (times p k k))) (times p y (times p (times p k z) (times p (times p k z) (times p k z))))
@@ -197,7 +190,7 @@ module _ {p : ℕ} (P : Prime p) (odd : 2 < p) (a₀ : ℕ) (hA : Same p (plus p
       by-y ex false e =
           rw (
             eq-eqb (addH p x' (j .X) (j .Z)) 0 (same-x j x y x' ex s),
-            ne-eqb (addR p y' (j .Y) (j .Z)) 0 (other-y j x y y' (differ (b .1) ly (eqb-false y y' e)) s),
+            ne-eqb (addR p y' (j .Y) (j .Z)) 0 (other-y j x y y' (distinct P (b .1) ly (eqb-false y y' e)) s),
           )
           (against j (addH p x' (j .X) (j .Z)) (addR p y' (j .Y) (j .Z)) (same-x j x y x' ex s))
 
@@ -207,5 +200,5 @@ module _ {p : ℕ} (P : Prime p) (odd : 2 < p) (a₀ : ℕ) (hA : Same p (plus p
           (cond t (cond (eqb y y') (double p a₀ (at x y)) infinity) (third p (chord p x y x' y') x y x'))
       by-x true e = by-y (eqb-true x x' e) (eqb y y') refl
       by-x false e =
-          let some : NonZero p (minus p x' x) = differ (b .0) lx (eqb-false x x' e) in
+          let some : NonZero p (minus p x' x) = distinct P (b .0) lx (eqb-false x x' e) in
           rw (ne-eqb (addH p x' (j .X) (j .Z)) 0 (other-x j x y x' some s)) (through j x y x' y' some s)

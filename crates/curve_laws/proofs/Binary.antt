@@ -7,8 +7,8 @@ use native.Mathlib.Omega.{arith}
 use lib.Dec.{eqb}
 use Rattle.curve_laws.specs.Modulo.{plus, times, inverse, over}
 use Rattle.curve_laws.specs.Points.{Point, infinity, at, xOf, OnCurve, discriminant, double, add, total}
-use Rattle.curve_laws.proofs.Modular.{Same, same-eq, settle}
 use Rattle.curve_laws.specs.Valid.{Prime}
+use Rattle.curve_laws.proofs.Modular.{Same, same-eq, settle}
 use Rattle.curve_laws.proofs.Modulo.{times-below, times-zero}
 use Rattle.curve_laws.proofs.Field.{NonZero, positive, inverse-zero, over-times, times-nonzero, below-zero, follows-divided}
 use Rattle.curve_laws.proofs.Ring.{var, _⊗_, _⊟_, gap}

@@ -8,9 +8,9 @@ use native.Mathlib.Omega.{arith}
 use native.Mathlib.Decide.{decLt, ℕ-discrete}
 use native.Mathlib.Nat.{mod-self, mod-mod-of-dvd, mod-eq-zero-of-dvd, dvd-of-mod-eq-zero, dvd-trans, div-add-mod', mul-mod-right, mul-le-mul, mul-le-mul-right}
 use lib.Dec.{T, eqb, ltb, ltb→lt, T-not}
+use Rattle.curve_laws.specs.Valid.{Prime}
 use Rattle.curve_laws.proofs.Tests.{both}
 use Rattle.curve_laws.proofs.Modular.{Same}
-use Rattle.curve_laws.specs.Valid.{Prime}
 
 -- what holds modulo n holds modulo its divisors
 pub modulo-divisor : {n a b : ℕ} (d : ℕ) → n % d ≡ 0 → Same n a b → Same d a b

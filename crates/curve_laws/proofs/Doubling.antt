@@ -9,11 +9,12 @@ use lib.Dec.{eqb}
 use borrow.Author.Tests.{eqb-true, eqb-false}
 use Rattle.curve_laws.specs.Modulo.{plus, times}
 use Rattle.curve_laws.specs.Points.{Point, infinity, at, third, thirdX, thirdY, tangent, double}
-use Rattle.curve_laws.proofs.Modular.{Same, same-eq, back, _then_}
 use Rattle.curve_laws.specs.Valid.{Prime}
+use Rattle.curve_laws.proofs.Modular.{Same, same-eq, back, _then_}
 use Rattle.curve_laws.proofs.Modulo.{times-below, times-zero, zero-times}
 use Rattle.curve_laws.proofs.Ring.{Expr, var, num, _⊕_, _⊖_, _⊗_, _⊞_, _⊟_, _⊡_, gap, follows}
-use Rattle.curve_laws.proofs.Field.{NonZero, positive, over-times, times-nonzero, below-zero, below-nonzero}
+use Rattle.curve_laws.proofs.Field.{NonZero, positive, times-nonzero, below-zero, below-nonzero}
+use Rattle.curve_laws.proofs.Slopes.{tangent-slope}
 use Rattle.curve_laws.proofs.Jacobian.{Triple, Below, Stands, doubleM, doubleS, doubleX, doubleZ, fourthY, lastY, doubleWith, doubled}
 
 abbrev pub square : Expr → Expr
@@ -136,11 +137,6 @@ module _ {p : ℕ} (P : Prime p) (odd : 2 < p) (a₀ : ℕ) (hA : Same p (plus p
   unfolding doubleZ
   double-below Y₀ Z₀ = times-below (positive P) 2 (times p Y₀ Z₀)
 
-  tangent-slope : (x₀ y₀ : ℕ) → NonZero p y₀ → Same p (times p (tangent p a₀ x₀ y₀) (times p 2 y₀)) (plus p (times p 3 (times p x₀ x₀)) a₀)
-  unfolding tangent
-  tangent-slope x₀ y₀ hy =
-      over-times P (plus p (times p 3 (times p x₀ x₀)) a₀) (times p 2 y₀) (times-nonzero P (below-nonzero (omega arith) odd) hy)
-
   from-none : (j : Triple) → Stands p j infinity → Stands p (doubled p j) infinity
   unfolding doubled doubleWith
   from-none j s =
@@ -169,7 +165,7 @@ module _ {p : ℕ} (P : Prime p) (odd : 2 < p) (a₀ : ℕ) (hA : Same p (plus p
       let m : ℕ = doubleM p (j .X) z in
       let r : ℕ = doubleS p (j .X) (j .Y) in
       let z' : ℕ = doubleZ p (j .Y) z in
-      let hM : Same p m (times p t z') = double-slope h x₀ y₀ (j .X) (j .Y) z hX hY t a₀ hA (tangent-slope x₀ y₀ hy) in
+      let hM : Same p m (times p t z') = double-slope h x₀ y₀ (j .X) (j .Y) z hX hY t a₀ hA (tangent-slope P odd a₀ x₀ y₀ hy) in
       let hS : Same p r (times p x₀ (times p z' z')) = double-S h x₀ y₀ (j .X) (j .Y) z hX hY in
       let hW : Same p (fourthY p (j .Y)) (times p y₀ (times p z' (times p z' z'))) = double-W h x₀ y₀ (j .X) (j .Y) z hX hY in
       let first : Same p (times p (thirdX p t x₀ x₀) (times p z' z')) (doubleX p m r) = double-X h t x₀ m r z' hM hS in

@@ -5,8 +5,8 @@ use mathlib.Core.Logic.{_≢_}
 use Prim.Native.Nat.{ℕ, zero, suc, _+_, _-_, _*_, _%_, _^_, _≤_, _<_}
 use native.Mathlib.Omega.{arith}
 use native.Mathlib.Nat.{mod-eq-of-lt, pow-zero, pow-suc, mul-zero}
-use Rattle.curve_laws.proofs.Modular.{Same, same, same-eq, _then_, multiple-of, sums, products}
 use Rattle.curve_laws.specs.Valid.{Prime}
+use Rattle.curve_laws.proofs.Modular.{Same, same, same-eq, _then_, multiple-of, sums, products}
 use Rattle.curve_laws.proofs.Prime.{no-zero-product, cancel-factor}
 
 choose : ℕ → ℕ → ℕ

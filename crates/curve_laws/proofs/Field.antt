@@ -8,8 +8,8 @@ use native.Mathlib.Omega.{arith}
 use native.Mathlib.Decide.{ℕ-discrete}
 use native.Mathlib.Nat.{mod-eq-of-lt, zero-mod, pow-suc, mul-zero}
 use Rattle.curve_laws.specs.Modulo.{times, power, inverse, over}
-use Rattle.curve_laws.proofs.Modular.{Same, same, same-eq, back, _then_, products}
 use Rattle.curve_laws.specs.Valid.{Prime}
+use Rattle.curve_laws.proofs.Modular.{Same, same, same-eq, back, _then_, products}
 use Rattle.curve_laws.proofs.Prime.{cancel-factor}
 use Rattle.curve_laws.proofs.Fermat.{fermat-one}
 use Rattle.curve_laws.proofs.Modulo.{times-same, power-same, none-minus}

@@ -6,11 +6,12 @@ use Prim.Native.Nat.{ℕ, _<_}
 use native.Mathlib.Decide.{ℕ-discrete}
 use Rattle.curve_laws.specs.Modulo.{times, minus, over}
 use Rattle.curve_laws.specs.Points.{Point, infinity, at, OnCurve, discriminant, third, thirdX, thirdY, add}
-use Rattle.curve_laws.proofs.Modular.{Same, same-eq, back, settle}
 use Rattle.curve_laws.specs.Valid.{Prime}
+use Rattle.curve_laws.proofs.Modular.{Same, same-eq, back, settle}
 use Rattle.curve_laws.proofs.Modulo.{none-minus}
 use Rattle.curve_laws.proofs.Ring.{var, num, _⊕_, _⊖_, _⊗_, none, _⊟_, gap, follows}
 use Rattle.curve_laws.proofs.Field.{NonZero, positive, same?, over-times}
+use Rattle.curve_laws.proofs.Slopes.{distinct}
 use Rattle.curve_laws.proofs.Lines.{Line, flip, resloped, onward, third-X-below, third-is, thirds, third-flip, slopes}
 use Rattle.curve_laws.proofs.Sums.{add-left, add-right, Opposite, opposite?, opposite-back, add-opposite, differing, slope, slope-line, add-slope, add-line, third-point-on, add-on, add-comm}
 use Rattle.curve_laws.proofs.ThreePoints.{in-line-x, in-line-y, in-line-same, joined, joined-x, joined-y, mirrored, mirrored-x, mirrored-y, singular}
@@ -100,9 +101,9 @@ module _ {p : ℕ} (P : Prime p) (odd : 2 < p) (a b : ℕ) (smooth : NonZero p (
         let L' : Line p a l x₂ y₂ x₁ y₁ = flip h a l x₁ y₁ x₂ y₂ L in
         let M' : Line p a l x₃ y₃ x₂ y₂ = flip h a l x₂ y₂ x₃ y₃ M in
         let ex : Same p (thirdX p l x₁ x₂) x₃
-        = in-line-x P odd a l x₁ y₁ x₂ y₂ x₃ y₃ L M (λ z. n (sym (settle (none-minus h z) (on₃ .0) (on₁ .0)))) in
+        = in-line-x P odd a l x₁ y₁ x₂ y₂ x₃ y₃ L M (distinct P (on₁ .0) (on₃ .0) n) in
         let fx : Same p (thirdX p l x₃ x₂) x₁
-        = in-line-x P odd a l x₃ y₃ x₂ y₂ x₁ y₁ M' L' (λ z. n (settle (none-minus h z) (on₁ .0) (on₃ .0))) in
+        = in-line-x P odd a l x₃ y₃ x₂ y₂ x₁ y₁ M' L' (distinct P (on₃ .0) (on₁ .0) (λ e. n (sym e))) in
         by-parts l l L M
         (add-opposite P odd a b (xₛ l l L M) (yₛ l l L M) x₃ y₃ (first-on l l L M .1)
         (settle ex (third-X-below h l x₁ x₂) (on₃ .0), in-line-y P odd a l x₁ y₁ x₂ y₂ x₃ y₃ L M ex))

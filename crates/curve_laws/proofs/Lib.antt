@@ -9,6 +9,7 @@ pub mod Primes
 pub mod Modulo
 pub mod Ring
 pub mod Field
+pub mod Slopes
 pub mod Jacobian
 pub mod Doubling
 pub mod Adding

@@ -1,17 +1,17 @@
--- A line through two points of a curve, chord or tangent alike, by two equations of its slope l: the rise l (x₂ - x₁) = y₂ - y₁, and the turn
--- l (y₁ + y₂) = x₁² + x₁ x₂ + x₂² + a, which follows from the rise on the curve where x₁ and x₂ differ. Points that are not opposite have one such slope; the third
--- point is on the curve; and the line goes through it as through the others.
+-- A line through two points of a curve, chord or tangent alike, by two equations of its slope l: the rise l (x₂ - x₁) = y₂ - y₁, and the bend
+-- l (y₁ + y₂) = x₁² + x₁ x₂ + x₂² + a, which on the curve follows from the rise where x₁ and x₂ differ. Points that are not opposite have one such
+-- slope; the third point is on the curve; and the line goes through its opposite as through the two.
 use mathlib.Core.Path.{_≡_, ap₂}
 use mathlib.Core.List.{List, [], _∷_}
 use Prim.Native.Nat.{ℕ, _<_}
-use native.Mathlib.Omega.{arith}
 use Rattle.curve_laws.specs.Modulo.{plus, times, minus}
 use Rattle.curve_laws.specs.Points.{at, equation, third, thirdX, thirdY, chord, tangent}
-use Rattle.curve_laws.proofs.Modular.{Same, same-eq, settle}
 use Rattle.curve_laws.specs.Valid.{Prime}
+use Rattle.curve_laws.proofs.Modular.{Same, same-eq, settle}
 use Rattle.curve_laws.proofs.Modulo.{plus-below, times-below, minus-below, none-minus}
 use Rattle.curve_laws.proofs.Ring.{Expr, var, num, _⊕_, _⊖_, _⊗_, value, Zero, none, _⊞_, _⊟_, _⊡_, gap, combined, follows}
-use Rattle.curve_laws.proofs.Field.{NonZero, positive, same?, over-times, times-nonzero, below-nonzero, divided, follows-divided}
+use Rattle.curve_laws.proofs.Field.{NonZero, positive, same?, divided, follows-divided}
+use Rattle.curve_laws.proofs.Slopes.{chord-slope, tangent-slope}
 
 pub record Line (p a l x₁ y₁ x₂ y₂ : ℕ) : Type 0 where
   pub rise : Same p (times p l (minus p x₂ x₁)) (minus p y₂ y₁)
@@ -175,19 +175,16 @@ module _ {p : ℕ} (P : Prime p) (odd : 2 < p) where
 
   pub chord-line : (a₀ b₀ u v u' v' : ℕ) → equation p a₀ b₀ u v → equation p a₀ b₀ u' v' → NonZero p (minus p u' u)
       → Line p a₀ (chord p u v u' v') u v u' v'
-  unfolding chord
   chord-line a₀ b₀ u v u' v' e e' some =
       let ρ : List ℕ = a₀ ∷ chord p u v u' v' ∷ u ∷ v ∷ u' ∷ v' ∷ 0 ∷ 0 ∷ b₀ ∷ [] in
-      let R = gap h ρ (l ⊗ (x₂ ⊖ x₁)) (y₂ ⊖ y₁) (over-times P (minus p v' v) (minus p u' u) some) in
+      let R = gap h ρ (l ⊗ (x₂ ⊖ x₁)) (y₂ ⊖ y₁) (chord-slope P u v u' v' some) in
       line-of h ρ a l x₁ y₁ x₂ y₂ R
       (divided P ((y₁ ⊕ y₂) ⊡ R ⊞ curve-of h ρ a b x₂ y₂ e' ⊟ curve-of h ρ a b x₁ y₁ e) (x₂ ⊖ x₁) (bends a l x₁ y₁ x₂ y₂) some tt)
 
   pub tangent-line : (a₀ u v : ℕ) → NonZero p v → Line p a₀ (tangent p a₀ u v) u v u v
-  unfolding tangent
   tangent-line a₀ u v some =
       let ρ : List ℕ = a₀ ∷ tangent p a₀ u v ∷ u ∷ v ∷ [] in
-      let two : NonZero p (times p 2 v) = times-nonzero P (below-nonzero (omega arith) odd) some in
-      let T = gap h ρ (l ⊗ (num 2 ⊗ y₁)) (num 3 ⊗ (x₁ ⊗ x₁) ⊕ a) (over-times P (plus p (times p 3 (times p u u)) a₀) (times p 2 v) two) in
+      let T = gap h ρ (l ⊗ (num 2 ⊗ y₁)) (num 3 ⊗ (x₁ ⊗ x₁) ⊕ a) (tangent-slope P odd a₀ u v some) in
       line-of h ρ a l x₁ y₁ x₁ y₁ (combined h ρ none (rises l x₁ y₁ x₁ y₁) tt) (combined h ρ T (bends a l x₁ y₁ x₁ y₁) tt)
 
   -- two slopes through points that are not opposite are the same

@@ -9,8 +9,8 @@ use native.Mathlib.Decide.{ℕ-discrete}
 use native.Mathlib.Nat.{div-add-mod', mod-eq-of-lt, mul-le-mul, mul-le-mul-left, pow-suc, mul-zero, zero-mod}
 use lib.Pow.{pow-add}
 use lib.Dec.{T, eqb, ltb, ltb→lt, eqb→eq, T-not}
-use Rattle.curve_laws.proofs.Modular.{Same, same, same-eq, back, _then_, rest-of, products, powers, cancel-sum}
 use Rattle.curve_laws.specs.Valid.{Prime}
+use Rattle.curve_laws.proofs.Modular.{Same, same, same-eq, back, _then_, rest-of, products, powers, cancel-sum}
 use Rattle.curve_laws.proofs.Prime.{inverts, no-zero-product}
 use Rattle.curve_laws.proofs.Fermat.{fermat-one}
 use Rattle.curve_laws.proofs.Powers.{one-power, power-power, power-one, quick, quick-power}

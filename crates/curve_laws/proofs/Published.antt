@@ -1,5 +1,5 @@
 -- The published multiples are those of the definitions: antt computes each by the binary method.
-use mathlib.Core.Path.{_≡_, refl}
+use mathlib.Core.Path.{_≡_}
 use mathlib.Core.Bool.{Bool, true, _&&_}
 use mathlib.Core.List.{List, [], _∷_}
 use Prim.Native.Nat.{ℕ, _+_, _^_}
@@ -12,7 +12,7 @@ use Rattle.curve_laws.specs.Published.{Row, table160, table256, Holds, P
 use Rattle.curve_laws.proofs.Tests.{both}
 use Rattle.curve_laws.proofs.Jacobian.{doubleM, doubleS, doubleX, doubleZ, lastY, fourthY, doubleWith, doubled, addH, addR, addX, addWith, added, turn, binary}
 use Rattle.curve_laws.proofs.Known.{meets}
-use Rattle.curve_laws.proofs.Valid.{valid160, valid256}
+use Rattle.curve_laws.proofs.Valid.{three160, three256, valid160, valid256}
 use Rattle.curve_laws.proofs.Scalar.{computed}
 
 -- the row's r has so many bits, and the multiple computed is the row's
@@ -35,4 +35,4 @@ holds c K three bits (s ∷ rows) t =
 
 pub published : Published
 unfolding table160 table256 SECP160R1 SECP256R1 xOf yOf plus times minus doubleM doubleS doubleX doubleZ lastY fourthY doubleWith doubled addH addR addX addWith added turn binary
-published = (holds SECP160R1 valid160 refl 161 table160 tt, holds SECP256R1 valid256 refl 256 table256 tt)
+published = (holds SECP160R1 valid160 three160 161 table160 tt, holds SECP256R1 valid256 three256 256 table256 tt)

@@ -11,11 +11,12 @@ use lib.Dec.{eqb}
 use borrow.Author.Tests.{eqb-true, eqb-false, eq-eqb, ne-eqb}
 use Rattle.curve_laws.specs.Modulo.{plus, minus}
 use Rattle.curve_laws.specs.Points.{Point, infinity, at, OnCurve, equation, third, thirdX, chord, tangent, double, add}
-use Rattle.curve_laws.proofs.Modular.{Same, same-eq, _then_, settle}
 use Rattle.curve_laws.specs.Valid.{Prime}
+use Rattle.curve_laws.proofs.Modular.{Same, same-eq, _then_, settle}
 use Rattle.curve_laws.proofs.Modulo.{none-minus}
 use Rattle.curve_laws.proofs.Ring.{var, num, _⊕_, _⊖_, _⊗_, none, _⊞_, _⊟_, _⊡_, gap, combined, follows}
 use Rattle.curve_laws.proofs.Field.{NonZero, positive, same?, zero-product, zero-factor, below-zero, below-nonzero}
+use Rattle.curve_laws.proofs.Slopes.{distinct}
 use Rattle.curve_laws.proofs.Lines.{Line, curve-of, flip, third-on, third-X-below, third-Y-below, third-same, third-flip, chord-line, tangent-line, slopes}
 
 -- same x, and y coordinates that add to 0
@@ -93,9 +94,6 @@ module _ {p : ℕ} (P : Prime p) (odd : 2 < p) (a b : ℕ) where
     y-nonzero : y ≡ y' → x ≡ x' → NonZero p y
     y-nonzero ey ex z = apart (ex, same-eq (ap (λ (n : ℕ). plus p y n) (sym ey)) then zero-twice y z)
 
-    distinct : (x ≡ x' → ⊥) → NonZero p (minus p x' x)
-    distinct n z = n (sym (settle (none-minus h z) (on' .0) (on .0)))
-
     -- there is a line
     pub slope : ℕ
     slope = cond (eqb x x') (tangent p a x y) (chord p x y x' y')
@@ -110,7 +108,7 @@ module _ {p : ℕ} (P : Prime p) (odd : 2 < p) (a b : ℕ) where
             let ey : y ≡ y' = same-y ex in
             subst (λ (v : ℕ). Line p a (tangent p a x y) x y x' v) ey
             (subst (λ (u : ℕ). Line p a (tangent p a x y) x y u y) ex (tangent-line P odd a x y (y-nonzero ey ex)))
-        go false e = chord-line P odd a b x y x' y' (on .2) (on' .2) (distinct (eqb-false x x' e))
+        go false e = chord-line P odd a b x y x' y' (on .2) (on' .2) (distinct P (on .0) (on' .0) (eqb-false x x' e))
 
     -- and the sum is its third point
     pub add-slope : add p a (at x y) (at x' y') ≡ third p slope x y x'

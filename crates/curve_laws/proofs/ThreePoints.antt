@@ -6,8 +6,8 @@ use Prim.Native.Nat.{ℕ, _<_}
 use native.Mathlib.Omega.{arith}
 use Rattle.curve_laws.specs.Modulo.{plus, times, minus}
 use Rattle.curve_laws.specs.Points.{equation, discriminant, thirdX, thirdY}
-use Rattle.curve_laws.proofs.Modular.{Same}
 use Rattle.curve_laws.specs.Valid.{Prime}
+use Rattle.curve_laws.proofs.Modular.{Same}
 use Rattle.curve_laws.proofs.Ring.{Expr, var, num, _⊕_, _⊖_, _⊗_, Zero, none, _⊞_, _⊟_, _⊡_, gap, combined, follows}
 use Rattle.curve_laws.proofs.Field.{NonZero, positive, below-nonzero, divided, follows-divided}
 use Rattle.curve_laws.proofs.Lines.{Line, rises, bends, newX, newY, rise-of, bend-of, curve-of, line-of, a, l, x₁, y₁, x₂, y₂, x₃, y₃, b, m}

@@ -63,10 +63,19 @@ valid c bits e three P N t =
           (ltb→lt (c .n) (2 ^ bits) (t .7)) infinity (t .8);
     }
 
+-- a = p - 3
+pub three160 : SECP160R1 .a + 3 ≡ SECP160R1 .p
+unfolding SECP160R1
+three160 = refl
+
+pub three256 : SECP256R1 .a + 3 ≡ SECP256R1 .p
+unfolding SECP256R1
+three256 = refl
+
 pub valid160 : Valid SECP160R1
 unfolding SECP160R1 xOf yOf discriminant equation plus times minus doubleM doubleS doubleX doubleZ lastY fourthY doubleWith doubled addH addR addX addWith added turn binary
-valid160 = valid SECP160R1 161 refl refl p160-prime n160-prime (tt, tt, tt, tt, tt, refl, tt, tt, tt)
+valid160 = valid SECP160R1 161 refl three160 p160-prime n160-prime (tt, tt, tt, tt, tt, refl, tt, tt, tt)
 
 pub valid256 : Valid SECP256R1
 unfolding SECP256R1 xOf yOf discriminant equation plus times minus doubleM doubleS doubleX doubleZ lastY fourthY doubleWith doubled addH addR addX addWith added turn binary
-valid256 = valid SECP256R1 256 refl refl p256-prime n256-prime (tt, tt, tt, tt, tt, refl, tt, tt, tt)
+valid256 = valid SECP256R1 256 refl three256 p256-prime n256-prime (tt, tt, tt, tt, tt, refl, tt, tt, tt)

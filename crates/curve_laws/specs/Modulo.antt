@@ -8,7 +8,7 @@ plus p a b = (a + b) % p
 unfoldable pub times : ℕ → ℕ → ℕ → ℕ
 times p a b = a * b % p
 
--- "the unique solution of b + x ≡ a": a plus what b lacks to p
+-- a plus the additive inverse of b, the solution of b + x ≡ 0: what b lacks to p
 unfoldable pub minus : ℕ → ℕ → ℕ → ℕ
 minus p a b = (a + (p - b % p)) % p
 
@@ -16,7 +16,7 @@ minus p a b = (a + (p - b % p)) % p
 unfoldable pub power : ℕ → ℕ → ℕ → ℕ
 power p a n = a ^ n % p
 
--- "the unique element x such that a x ≡ 1", for a other than 0: by Fermat a to the p - 2. Of 0 it is 0
+-- the multiplicative inverse, the solution of a x ≡ 1 for a other than 0: by Fermat a to the p - 2. (Of 0 it is 0)
 unfoldable pub inverse : ℕ → ℕ → ℕ
 inverse p a = power p a (p - 2)
 
