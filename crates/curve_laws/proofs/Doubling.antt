@@ -25,7 +25,7 @@ cube e = e ⊗ (e ⊗ e)
 
 -- ---- the last step
 
--- the unknowns: slope, x₁, y₁, x₂; M, S, W; X', Z'
+-- the unknowns: the slope, the point that is added to, x of the sum; M, S, W; X' and Z'. (Their values have other names)
 abbrev l : Expr
 l = var 0
 

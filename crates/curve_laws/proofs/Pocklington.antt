@@ -1,5 +1,5 @@
--- Pocklington: n is prime if n - 1 = k f for a prime f with n below f², and some a has a^(k f) = 1 and a^k - 1 invertible modulo n. For then f
--- divides d - 1 for each prime divisor d of n. With two primes f and g, n below (f g)² is enough. antt computes the tests.
+-- Pocklington: n is prime if, for a prime f with n below f², some b has b^f = 1 and b - 1 invertible modulo n: then f divides d - 1 for each
+-- prime divisor d of n. With two primes f and g, n below (f g)² is enough. For a prime f of n - 1, b = a^((n - 1) / f) serves; antt computes the tests.
 use mathlib.Core.Path.{_≡_, sym, ap, subst, _∙_}
 use mathlib.Core.Logic.{_≢_}
 use mathlib.Core.Bool.{not}
@@ -29,7 +29,8 @@ one-not-zero d h s =
     let o : 1 % d ≡ 1 = mod-eq-of-lt h in
     omega arith
 
--- b is a root modulo d too, and no power of it below f is 1: with (d - 1) v = 1 + w f it would be b itself
+-- Modulo a prime divisor d of n, b is such a root too. If f did not divide d - 1, then (d - 1) v = 1 + w f for some v and w, and b would be
+-- b^((d - 1) v) = 1
 module _ (n f b d : ℕ) (F : Prime f) (D : Prime d) (R : Roots n f b) (divides : n % d ≡ 0) where
   root-here : Same d (b ^ f) 1
   root-here = modulo-divisor d divides (R .root)
