@@ -12,7 +12,7 @@ use Rattle.number.specs.Limbs.{over, value}
 use Rattle.number.proofs.Limbs.{Limbs, value-drop, value-end}
 
 -- limb q and what is above it
-value-high : (t : List ℕ) (q : ℕ) → Limbs t → value t / 2 ^ (32 * q) ≡ value (drop q t)
+pub value-high : (t : List ℕ) (q : ℕ) → Limbs t → value t / 2 ^ (32 * q) ≡ value (drop q t)
 unfolding over value
 value-high t zero h = div-one (value t)
 value-high [] (suc q) h = zero-div (2 ^ (32 * suc q))
