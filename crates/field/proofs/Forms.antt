@@ -10,7 +10,7 @@ use lib.Dec.{eqb, ltb}
 use borrow.Author.Tests.{lt-ltb, le-ltb, eq-eqb, ne-eqb}
 use lib.ListN.{length, take, drop, replicate, length-append, length-drop}
 use lib.Seq.{take-at, length-take-le}
-use Rattle.number.specs.Limbs.{over, value, Below}
+use Rattle.limbs.specs.Limbs.{over, value, Below}
 use Rattle.curve_laws.specs.Modulo.{plus, times, minus}
 use Rattle.field.specs.Montgomery.{shrink, plain, Field, Form, Holds, Square}
 use Rattle.field.proofs.Units.{unit, holds-product, holds-sum, holds-difference, holds-zero, holds-into, holds-out}

@@ -6,9 +6,9 @@ use native.Mathlib.Nat.{pow-zero, mod-eq-of-lt, div-one}
 use native.Mathlib.Omega.{arith}
 use lib.ListN.{length}
 use lib.Pow.{pow-add, shr-shr}
-use Rattle.number.specs.Limbs.{value}
-use Rattle.number.proofs.Limbs.{Limbs, value-end}
-use Rattle.number.proofs.Digits.{value-high}
+use Rattle.limbs.specs.Limbs.{value}
+use Rattle.limbs.proofs.Limbs.{Limbs, value-end}
+use Rattle.limbs.proofs.Digits.{value-high}
 use Rattle.curve_laws.specs.Modulo.{times, power}
 use Rattle.curve_laws.proofs.Modular.{Same, same, same-eq, back, _then_, rest-of, products}
 use Rattle.curve_laws.proofs.Powers.{power-one}

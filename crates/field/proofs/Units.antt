@@ -5,8 +5,8 @@ use Prim.Native.Nat.{ℕ, zero, suc, _+_, _*_, _-_, _/_, _%_, _^_, _<_}
 use native.Mathlib.Nat.{pow-zero, pow-suc, mod-lt, mod-eq-of-lt, zero-mod}
 use native.Mathlib.Omega.{arith}
 use lib.ListN.{length, getD, drop}
-use Rattle.number.specs.Limbs.{value, Modulus}
-use Rattle.number.proofs.Limbs.{value-drop}
+use Rattle.limbs.specs.Limbs.{value, Modulus}
+use Rattle.limbs.proofs.Limbs.{value-drop}
 use Rattle.curve_laws.specs.Modulo.{plus, times, minus}
 use Rattle.curve_laws.proofs.Modular.{Same, same, same-eq, back, _then_, rest-of, drops, settle, sums, products, powers}
 use Rattle.curve_laws.proofs.Powers.{one-power}

@@ -4,7 +4,7 @@ use Prim.Native.Nat.{ℕ, _+_, _*_, _/_, _%_, _^_, _≤_, _<_}
 use mathlib.Core.Path.{_≡_}
 use mathlib.Core.List.{List}
 use lib.ListN.{length, take}
-use Rattle.number.specs.Limbs.{value, Modulus, Below}
+use Rattle.limbs.specs.Limbs.{value, Modulus, Below}
 
 -- the inverse of the base modulo m: m inv + 1 is a multiple of the base
 unfoldable pub shrink : List ℕ → ℕ → ℕ

@@ -2,7 +2,7 @@
 use super::operation::product;
 ghost use mathlib.Core.Path.{_≡_};
 ghost use lib.ListN.{length, take};
-ghost use Rattle.number.specs.Limbs.{value};
+ghost use Rattle.limbs.specs.Limbs.{value};
 ghost use Rattle.field.specs.Montgomery.{plain, Field, Form, Holds, Square};
 
 // The form that holds a number. Its factor is the power of the base above m's limbs, squared

@@ -1,11 +1,11 @@
 // Sum, difference and product of two forms, and whether a form holds 0.
-use number::modular::add_mod;
-use number::modular::subtract_mod;
-use number::montgomery::montgomery;
-use number::plain::less;
+use limbs::modular::add_mod;
+use limbs::modular::subtract_mod;
+use limbs::montgomery::montgomery;
+use limbs::plain::less;
 ghost use mathlib.Core.Path.{_≡_};
 ghost use lib.Dec.{eqb};
-ghost use Rattle.number.specs.Limbs.{value};
+ghost use Rattle.limbs.specs.Limbs.{value};
 ghost use Rattle.curve_laws.specs.Modulo.{plus, times, minus};
 ghost use Rattle.field.specs.Montgomery.{plain, Field, Form, Holds};
 

@@ -1,10 +1,10 @@
 // Powers of a form, by squares: the exponent's bits from the top.
 use super::operation::product;
-use number::bytes::bit;
+use limbs::bytes::bit;
 ghost use mathlib.Core.Path.{_≡_};
 ghost use Prim.Native.Nat.{_*_, _%_, _^_, _≤_};
 ghost use lib.ListN.{length};
-ghost use Rattle.number.specs.Limbs.{value};
+ghost use Rattle.limbs.specs.Limbs.{value};
 ghost use Rattle.curve_laws.specs.Modulo as modulo;
 ghost use Rattle.field.specs.Montgomery.{plain, Field, Form, Holds};
 

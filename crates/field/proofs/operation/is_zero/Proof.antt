@@ -5,7 +5,7 @@ use denote.Ref.{now}
 use lib.ListN.{length, take}
 use Prim.Native.Nat.{ℕ, _<_}
 use lib.Dec.{ltb}
-use Rattle.number.specs.Limbs.{value, Below}
+use Rattle.limbs.specs.Limbs.{value, Below}
 use Rattle.field.proofs.Forms as forms
 use borrow.Author.Needs.{needs}
 use Rattle.field.proofs.operation.is_zero.Statement.{statement}

@@ -3,7 +3,7 @@ use mathlib.Core.Path.{_≡_, refl, sym, ap, _∙_}
 use native.Mathlib.Omega.{arith}
 use denote.Ref.{now}
 use lib.ListN.{length, take}
-use Rattle.number.specs.Limbs.{value, Below}
+use Rattle.limbs.specs.Limbs.{value, Below}
 use Rattle.field.proofs.Forms as forms
 use borrow.Author.Needs.{needs}
 use Rattle.field.proofs.operation.product.Statement.{statement}

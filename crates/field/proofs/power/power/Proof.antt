@@ -4,7 +4,7 @@ use Prim.Native.Nat.{ℕ, _-_, _*_, _/_, _%_, _^_, _≤_}
 use native.Mathlib.Omega.{arith}
 use borrow.Author.Needs.{needs}
 use lib.ListN.{length}
-use Rattle.number.specs.Limbs.{value}
+use Rattle.limbs.specs.Limbs.{value}
 use Rattle.curve_laws.specs.Modulo.{power}
 use Rattle.field.specs.Montgomery.{plain, Holds}
 use Rattle.field.proofs.Powers.{power-start, power-turn, power-end}

@@ -2,7 +2,7 @@
 use mathlib.Core.Path.{_≡_, sym, ap, _∙_}
 use Prim.Native.Nat.{ℕ}
 use native.Mathlib.Omega.{arith}
-use Rattle.number.specs.Limbs.{value}
+use Rattle.limbs.specs.Limbs.{value}
 use Rattle.curve_laws.specs.Modulo.{times}
 use Rattle.field.specs.Montgomery.{plain}
 use Rattle.field.proofs.Powers.{without, with-one}
