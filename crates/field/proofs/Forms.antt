@@ -46,6 +46,18 @@ module _ (m : List ℕ) (inv : ℕ) (f : Field m inv) where
   pub below-zeros : 0 < value m → Below (take (length m) zeros) m
   below-zeros h = record { width = width zeros refl; less = rw (value-zeros (length m)) h }
 
+  -- 0 holds 0
+  pub holds-none : Holds m inv zeros 0
+  unfolding plain
+  holds-none =
+      record {
+        form = record { whole = refl; below = below-zeros (omega (arith, f .large)) };
+        holds =
+            ap (λ (k : ℕ). k * shrink m inv ^ length m % value m) (value-zeros (length m))
+            ∙ ap (λ (k : ℕ). k % value m) (zero-mul (shrink m inv ^ length m))
+            ∙ zero-mod (value m);
+      }
+
   pub form-ones : Form m ones
   form-ones = record { whole = refl; below = record { width = width ones refl; less = rw (value-ones (length m) (f .modulus .some)) (f .large) } }
 

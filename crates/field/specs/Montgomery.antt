@@ -30,6 +30,10 @@ pub record Holds (m : List ℕ) (inv : ℕ) (a : List ℕ) (v : ℕ) : Type 0 wh
   pub form : Form m a
   pub holds : plain m inv a ≡ v
 
+-- a form that holds a value: of the modulus, and of what other forms hold
+abbrev pub Gives : List ℕ → ℕ → List ℕ → (ℕ → (List ℕ → ℕ) → ℕ) → Type 0
+Gives m inv a f = Holds m inv a (f (value m) (plain m inv))
+
 -- the power of the base above m's limbs, squared, modulo m
 pub record Square (m a : List ℕ) : Type 0 where
   pub form : Form m a

@@ -5,14 +5,13 @@ use limbs::montgomery::montgomery;
 use limbs::plain::less;
 ghost use mathlib.Core.Path.{_≡_};
 ghost use lib.Dec.{eqb};
-ghost use Rattle.limbs.specs.Limbs.{value};
 ghost use Rattle.curve_laws.specs.Modulo.{plus, times, minus};
-ghost use Rattle.field.specs.Montgomery.{plain, Field, Form, Holds};
+ghost use Rattle.field.specs.Montgomery.{plain, Field, Form, Gives};
 
 // a + b
 pub fn sum(a: [u32; 8], b: [u32; 8], m: &[u32], inv: u32) -> [u32; 8]
     requires { ⌜ Field (now m) inv × Form (now m) a × Form (now m) b ⌝ }
-    ensures { λ r. ⌜ Holds (now (m .entry)) inv r (plus (value (now (m .entry))) (plain (now (m .entry)) inv a) (plain (now (m .entry)) inv b)) ⌝ }
+    ensures { λ r. ⌜ Gives (now (m .entry)) inv r (λ p v. plus p (v a) (v b)) ⌝ }
 {
     let n = m.len();
     let mut t = a;
@@ -23,7 +22,7 @@ pub fn sum(a: [u32; 8], b: [u32; 8], m: &[u32], inv: u32) -> [u32; 8]
 // a - b
 pub fn difference(a: [u32; 8], b: [u32; 8], m: &[u32], inv: u32) -> [u32; 8]
     requires { ⌜ Field (now m) inv × Form (now m) a × Form (now m) b ⌝ }
-    ensures { λ r. ⌜ Holds (now (m .entry)) inv r (minus (value (now (m .entry))) (plain (now (m .entry)) inv a) (plain (now (m .entry)) inv b)) ⌝ }
+    ensures { λ r. ⌜ Gives (now (m .entry)) inv r (λ p v. minus p (v a) (v b)) ⌝ }
 {
     let n = m.len();
     let mut t = a;
@@ -34,7 +33,7 @@ pub fn difference(a: [u32; 8], b: [u32; 8], m: &[u32], inv: u32) -> [u32; 8]
 // a b
 pub fn product(a: [u32; 8], b: [u32; 8], m: &[u32], inv: u32) -> [u32; 8]
     requires { ⌜ Field (now m) inv × Form (now m) a × Form (now m) b ⌝ }
-    ensures { λ r. ⌜ Holds (now (m .entry)) inv r (times (value (now (m .entry))) (plain (now (m .entry)) inv a) (plain (now (m .entry)) inv b)) ⌝ }
+    ensures { λ r. ⌜ Gives (now (m .entry)) inv r (λ p v. times p (v a) (v b)) ⌝ }
 {
     let n = m.len();
     let mut t = [0u32; 8];

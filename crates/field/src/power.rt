@@ -1,17 +1,16 @@
 // Powers of a form, by squares: the exponent's bits from the top.
 use super::operation::product;
 use limbs::bytes::bit;
-ghost use mathlib.Core.Path.{_≡_};
 ghost use Prim.Native.Nat.{_*_, _%_, _^_, _≤_};
 ghost use lib.ListN.{length};
 ghost use Rattle.limbs.specs.Limbs.{value};
 ghost use Rattle.curve_laws.specs.Modulo as modulo;
-ghost use Rattle.field.specs.Montgomery.{plain, Field, Form, Holds};
+ghost use Rattle.field.specs.Montgomery.{Field, Form, Holds, Gives};
 
 // One bit more: t t, and times a where the bit is 1
 fn turn(t: [u32; 8], a: [u32; 8], bit: u32, m: &[u32], inv: u32) -> [u32; 8]
     requires { ⌜ Field (now m) inv × Form (now m) t × Form (now m) a × (bit ≤ 1) ⌝ }
-    ensures { λ r. ⌜ Holds (now (m .entry)) inv r (plain (now (m .entry)) inv t * plain (now (m .entry)) inv t * plain (now (m .entry)) inv a ^ bit % value (now (m .entry))) ⌝ }
+    ensures { λ r. ⌜ Gives (now (m .entry)) inv r (λ p v. v t * v t * v a ^ bit % p) ⌝ }
 {
     let square = product(t, t, m, inv);
     if bit == 0 {
@@ -23,7 +22,7 @@ fn turn(t: [u32; 8], a: [u32; 8], bit: u32, m: &[u32], inv: u32) -> [u32; 8]
 // a to the e. one is the form that holds 1
 pub fn power(a: [u32; 8], e: &[u32], one: [u32; 8], m: &[u32], inv: u32) -> [u32; 8]
     requires { ⌜ Field (now m) inv × Form (now m) a × Holds (now m) inv one 1 × (length (now e) ≤ 8) ⌝ }
-    ensures { λ r. ⌜ Holds (now (m .entry)) inv r (modulo.power (value (now (m .entry))) (plain (now (m .entry)) inv a) (value (now (e .entry)))) ⌝ }
+    ensures { λ r. ⌜ Gives (now (m .entry)) inv r (λ p v. modulo.power p (v a) (value (now (e .entry)))) ⌝ }
 {
     let mut t = one;
     let mut left = 32 * e.len();
