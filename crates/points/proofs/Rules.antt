@@ -4,6 +4,7 @@ use mathlib.Core.Bool.{Bool, true, false, cond, _&&_}
 use mathlib.Core.List.{List}
 use Prim.Native.Nat.{ℕ, zero, suc, _+_, _-_, _*_, _/_, _%_, _^_, _≤_, _<_}
 use native.Mathlib.Nat.{div-one}
+use native.Mathlib.Numerals.{add-one}
 use native.Mathlib.Omega.{arith}
 use lib.Dec.{eqb}
 use lib.Pow.{shr-shr}
@@ -49,25 +50,25 @@ module _ (p x y : ℕ) (j : Triple) where
   unfolding turn
   turn-add bit n e = rw e (sym (rw (ne-eqb bit 0 n)))
 
--- from the highest bit down
-pub binary-turn : (p x y bits r left bit : ℕ) {j : Triple} → 0 < left → left ≤ bits → j ≡ binary p x y (bits - left) (r / 2 ^ left)
-    → bit ≡ r / 2 ^ (left - 1) % 2 → turn p x y bit j ≡ binary p x y (bits - (left - 1)) (r / 2 ^ (left - 1))
+-- from the highest bit down: after i turns the point is the multiple by the i highest of r's bits
+pub binary-start : (p x y bits r : ℕ) → triple 1 1 0 ≡ binary p x y 0 (r / 2 ^ (bits - 0))
 unfolding binary
-binary-turn p x y bits r left bit {j} h l e f =
-    let last : left - 1 + 1 ≡ left = omega arith in
-    let more : bits - (left - 1) ≡ suc (bits - left) = omega arith in
-    let half : r / 2 ^ (left - 1) / 2 ≡ r / 2 ^ left = shr-shr r (left - 1) 1 ∙ ap (λ (k : ℕ). r / 2 ^ k) last in
-    ap (λ (k : ℕ). turn p x y k j) f
-    ∙ ap (λ (t : Triple). turn p x y (r / 2 ^ (left - 1) % 2) t) (e ∙ ap (λ (k : ℕ). binary p x y (bits - left) k) (sym half))
-    ∙ ap (λ (k : ℕ). binary p x y k (r / 2 ^ (left - 1))) (sym more)
+binary-start p x y bits r = refl
 
-pub binary-start : (p x y bits r : ℕ) → triple 1 1 0 ≡ binary p x y (bits - bits) (r / 2 ^ bits)
+pub binary-turn : (p x y bits r i bit : ℕ) {j : Triple} → i < bits → j ≡ binary p x y i (r / 2 ^ (bits - i))
+    → bit ≡ r / 2 ^ (bits - 1 - i) % 2 → turn p x y bit j ≡ binary p x y (i + 1) (r / 2 ^ (bits - (i + 1)))
 unfolding binary
-binary-start p x y bits r = let none : bits - bits ≡ 0 = omega arith in sym (ap (λ (k : ℕ). binary p x y k (r / 2 ^ bits)) none)
+binary-turn p x y bits r i bit {j} h e f =
+    let place : bits - 1 - i ≡ bits - (i + 1) = omega arith in
+    let above : bits - (i + 1) + 1 ≡ bits - i = omega arith in
+    let half : r / 2 ^ (bits - (i + 1)) / 2 ≡ r / 2 ^ (bits - i) = shr-shr r (bits - (i + 1)) 1 ∙ ap (λ (k : ℕ). r / 2 ^ k) above in
+    ap (λ (k : ℕ). turn p x y k j) (f ∙ ap (λ (k : ℕ). r / 2 ^ k % 2) place)
+    ∙ ap (λ (t : Triple). turn p x y (r / 2 ^ (bits - (i + 1)) % 2) t) (e ∙ ap (λ (k : ℕ). binary p x y i k) (sym half))
+    ∙ ap (λ (k : ℕ). binary p x y k (r / 2 ^ (bits - (i + 1)))) (sym (add-one i))
 
-pub binary-end : (p x y bits r left : ℕ) → left ≡ 0 → binary p x y (bits - left) (r / 2 ^ left) ≡ binary p x y bits r
-binary-end p x y bits r left z =
-    let all : bits - left ≡ bits = omega arith in
-    ap (λ (k : ℕ). binary p x y k (r / 2 ^ left)) all
-    ∙ ap (λ (k : ℕ). binary p x y bits (r / 2 ^ k)) z
+pub binary-end : (p x y bits r i : ℕ) → i ≡ bits → binary p x y i (r / 2 ^ (bits - i)) ≡ binary p x y bits r
+binary-end p x y bits r i e =
+    let none : bits - i ≡ 0 = omega arith in
+    ap (λ (k : ℕ). binary p x y k (r / 2 ^ (bits - i))) e
+    ∙ ap (λ (k : ℕ). binary p x y bits (r / 2 ^ k)) none
     ∙ ap (λ (k : ℕ). binary p x y bits k) (div-one r)

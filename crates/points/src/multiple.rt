@@ -53,11 +53,11 @@ pub fn multiple(
         y: one,
         z: none,
     };
-    let mut left = bits;
-    while 0 < left {
-        left -= 1;
-        let next = turn(j, x, y, one, bit(r, left), m, inv);
+    let mut i: usize = 0;
+    while i < bits {
+        let next = turn(j, x, y, one, bit(r, bits - 1 - i), m, inv);
         j = next;
+        i += 1;
     }
     j
 }

@@ -23,13 +23,13 @@ array-share-prefix-one c = search needs
 slice-aggregate-less-2 : tie.Need-slice-aggregate-less-2
 slice-aggregate-less-2 c =
     let a = c .before .before .before .args in
-    sym (forms.width (now (a .m)) (a .inv) (c .before .before .before .pre .0) forms.ones refl)
+    sym (forms.width (now (a .m)) (a .inv) (c .before .before .before .pre .0) _ refl)
 
 less-requires : tie.Need-less-requires
 less-requires c κs =
     let a = c .before .before .before .args in
     let h = c .before .before .before .pre in
-    h .1 .below .width ∙ sym (forms.width (now (a .m)) (a .inv) (h .0) forms.ones refl)
+    h .1 .below .width ∙ sym (forms.width (now (a .m)) (a .inv) (h .0) _ refl)
 
 returns : tie.Need-returns
 returns c =
