@@ -41,6 +41,18 @@ pub fn product(a: [u32; 8], b: [u32; 8], m: &[u32], inv: u32) -> [u32; 8]
     t
 }
 
+// a a. A second caller also keeps the compiler from merging Montgomery's product into the first, which would be slower
+pub fn square(a: [u32; 8], m: &[u32], inv: u32) -> [u32; 8]
+    requires { ⌜ Field (now m) inv × Form (now m) a ⌝ }
+    ensures { λ r. ⌜ Gives (now (m .entry)) inv r (λ p v. times p (v a) (v a)) ⌝ }
+{
+    let n = m.len();
+    let b = a;
+    let mut t = [0u32; 8];
+    montgomery(&mut t[..n], &a[..n], &b[..n], m, inv);
+    t
+}
+
 // Whether a is 0
 pub fn is_zero(a: [u32; 8], m: &[u32], inv: u32) -> bool
     requires { ⌜ Field (now m) inv × Form (now m) a ⌝ }

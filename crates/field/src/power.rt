@@ -1,5 +1,6 @@
 // Powers of a form, by squares: the exponent's bits from the top.
 use super::operation::product;
+use super::operation::square;
 use limbs::bytes::bit;
 ghost use Prim.Native.Nat.{_*_, _%_, _^_, _≤_};
 ghost use lib.ListN.{length};
@@ -12,11 +13,11 @@ fn turn(t: [u32; 8], a: [u32; 8], bit: u32, m: &[u32], inv: u32) -> [u32; 8]
     requires { ⌜ Field (now m) inv × Form (now m) t × Form (now m) a × (bit ≤ 1) ⌝ }
     ensures { λ r. ⌜ Gives (now (m .entry)) inv r (λ p v. v t * v t * v a ^ bit % p) ⌝ }
 {
-    let square = product(t, t, m, inv);
+    let twice = square(t, m, inv);
     if bit == 0 {
-        return square;
+        return twice;
     }
-    product(square, a, m, inv)
+    product(twice, a, m, inv)
 }
 
 // a to the e. one is the form that holds 1

@@ -12,24 +12,24 @@ use borrow.Author.Needs.{needs}
 use Rattle.field.proofs.power.turn.Statement.{statement}
 use Rattle.field.proofs.power.turn.Tie as tie
 
-product-requires : tie.Need-product-requires
-product-requires c κs = search needs
+square-requires : tie.Need-square-requires
+square-requires c κs = search needs
 
 returns : tie.Need-returns
 returns c =
     let a = c .before .before .before .args in
-    forms.holds-as (c .before .product .ensures) (without (value (now (a .m))) (plain (now (a .m)) (a .inv) (a .t)) (plain (now (a .m)) (a .inv) (a .a)) (a .bit) (c .if1 .taken))
+    forms.holds-as (c .before .square .ensures) (without (value (now (a .m))) (plain (now (a .m)) (a .inv) (a .t)) (plain (now (a .m)) (a .inv) (a .a)) (a .bit) (c .if1 .taken))
 
-product-requires-2 : tie.Need-product-requires-2
-product-requires-2 c κs = search needs
+product-requires : tie.Need-product-requires
+product-requires c κs = search needs
 
 returns-2 : tie.Need-returns-2
 returns-2 c =
     let a = c .before .before .before .before .args in
     let one : a .bit ≡ 1 = omega arith in
-    forms.holds-as (c .product2 .ensures)
-    (ap (λ (k : ℕ). times (value (now (a .m))) k (plain (now (a .m)) (a .inv) (a .a))) (c .before .before .product .ensures .holds)
+    forms.holds-as (c .product .ensures)
+    (ap (λ (k : ℕ). times (value (now (a .m))) k (plain (now (a .m)) (a .inv) (a .a))) (c .before .before .square .ensures .holds)
     ∙ with-one (value (now (a .m))) (plain (now (a .m)) (a .inv) (a .t)) (plain (now (a .m)) (a .inv) (a .a)) (a .bit) one)
 
 pub turn-spec : {M : Type 1} → statement M
-turn-spec = tie.close (tie.spec product-requires returns product-requires-2 returns-2)
+turn-spec = tie.close (tie.spec square-requires returns product-requires returns-2)
