@@ -1,7 +1,7 @@
 -- Powers by squares: one bit more of the exponent.
-use mathlib.Core.Path.{_≡_, refl, sym, ap, _∙_}
+use mathlib.Core.Path.{_≡_, sym, ap, _∙_}
 use mathlib.Core.List.{List}
-use Prim.Native.Nat.{ℕ, zero, suc, _+_, _-_, _*_, _/_, _%_, _^_, _≤_, _<_}
+use Prim.Native.Nat.{ℕ, _+_, _-_, _*_, _/_, _%_, _^_, _<_}
 use native.Mathlib.Nat.{pow-zero, mod-eq-of-lt, div-one}
 use native.Mathlib.Omega.{arith}
 use lib.ListN.{length}
@@ -10,7 +10,7 @@ use Rattle.limbs.specs.Limbs.{value}
 use Rattle.limbs.proofs.Limbs.{Limbs, value-end}
 use Rattle.limbs.proofs.Digits.{value-high}
 use Rattle.curve_laws.specs.Modulo.{times, power}
-use Rattle.curve_laws.proofs.Modular.{Same, same, same-eq, back, _then_, rest-of, products}
+use Rattle.curve_laws.proofs.Modular.{Same, same, same-eq, _then_, rest-of, products}
 use Rattle.curve_laws.proofs.Powers.{power-one}
 
 -- the square, and times a for a bit of 1

@@ -1,5 +1,5 @@
 -- Bits and bytes of a number, read out of the limb that they lie in, and the bits of a byte shifted in from the top.
-use mathlib.Core.Path.{_≡_, refl, sym, ap, _∙_}
+use mathlib.Core.Path.{_≡_, sym, ap, _∙_}
 use mathlib.Core.List.{List, [], _∷_}
 use Prim.Native.Nat.{ℕ, zero, suc, _+_, _-_, _*_, _/_, _%_, _^_, _≤_, _<_}
 use native.Mathlib.Nat.{div-one, zero-div, mod-mod, pow-suc, mod-add-div, add-mul-mod-self-left}

@@ -7,7 +7,7 @@ use native.Mathlib.Nat.{pow-zero, pow-suc}
 use native.Mathlib.Numerals.{add-one}
 use native.Mathlib.Omega.{arith}
 use lib.ListN.{length, getD, take, drop, set, drop-of-length-le}
-use lib.Seq.{take-suc-set, drop-cons, drop-set-lt, take-all, drop-length}
+use lib.Seq.{take-suc-set, drop-cons, drop-set-lt, take-all}
 use Rattle.limbs.specs.Limbs.{over, value}
 
 pub over-append : (xs ys : List ℕ) (v : ℕ) → over (xs ++ ys) v ≡ over xs (over ys v)

@@ -2,12 +2,12 @@
 -- times m; and t stays below 2 m.
 use mathlib.Core.Path.{_≡_, sym, ap, _∙_}
 use mathlib.Core.List.{List, [], _∷_}
-use Prim.Native.Nat.{ℕ, suc, _+_, _*_, _/_, _%_, _^_, _≤_, _<_}
+use Prim.Native.Nat.{ℕ, _+_, _*_, _/_, _%_, _^_, _≤_, _<_}
 use native.Mathlib.Nat.{pow-suc, mul-le-mul, mod-add-div, add-mul-mod-self-left, add-mul-mod-self-right, mul-comm}
 use native.Mathlib.Numerals.{add-one}
 use native.Mathlib.Omega.{arith}
 use lib.ListN.{length, getD, take}
-use lib.Seq.{take-suc, take-all, length-take-le}
+use lib.Seq.{take-suc, length-take-le}
 use Rattle.limbs.specs.Limbs.{over, value, quotient}
 use Rattle.limbs.proofs.Limbs.{over-append, over-value}
 

@@ -6,8 +6,8 @@ use Prim.Native.Nat.{ℕ, _+_, _-_, _*_, _/_, _%_, _≤_, _<_}
 use native.Mathlib.Nat.{add-mul-mod-self-left}
 use native.Mathlib.Omega.{arith}
 use lib.ListN.{length, getD, take, drop, set, length-set}
-use lib.Seq.{take-all, drop-set-lt}
-use Rattle.limbs.specs.Limbs.{over, value, quotient, Modulus}
+use lib.Seq.{drop-set-lt}
+use Rattle.limbs.specs.Limbs.{over, value, quotient}
 use Rattle.limbs.proofs.Limbs.{over-turn, over-drop, over-end, over-last, value-drop, value-end}
 
 -- the multiple of m makes the lowest limb 0: m inv + 1 is a multiple of the base

@@ -1,6 +1,6 @@
 -- Numbers as limbs: digits in base 2^32, the least significant first. `over` is the number that goes on above the limbs,
 -- so that a carry is written without a power of the base.
-use Prim.Native.Nat.{ℕ, zero, suc, _+_, _*_, _%_, _<_}
+use Prim.Native.Nat.{ℕ, _+_, _*_, _%_, _<_}
 use mathlib.Core.Path.{_≡_}
 use mathlib.Core.List.{List, [], _∷_}
 use lib.ListN.{length, getD}

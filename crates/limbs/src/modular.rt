@@ -2,11 +2,9 @@
 use super::plain::add_times;
 use super::plain::less;
 use super::plain::subtract;
-use super::plain::twice;
 ghost use mathlib.Core.Path.{_≡_};
-ghost use Prim.Native.Nat.{_+_, _-_, _*_, _%_, _<_, _≤_};
+ghost use Prim.Native.Nat.{_+_, _-_, _*_, _%_, _<_};
 ghost use lib.ListN.{length};
-ghost use Rattle.laws.specs.Bytes.{number};
 ghost use Rattle.limbs.specs.Limbs.{over, value, Below};
 
 // t with the limb top above it, modulo m, where it is less than 2 m

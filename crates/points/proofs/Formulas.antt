@@ -1,11 +1,10 @@
 -- The formulas of Jacobian coordinates as the code comes to them, call by call.
-use mathlib.Core.Path.{_≡_, refl, sym, ap, _∙_}
-use mathlib.Core.List.{List}
+use mathlib.Core.Path.{_≡_, refl, ap}
 use Prim.Native.Nat.{ℕ, _+_, _-_, _*_, _%_}
 use native.Mathlib.Omega.{arith}
 use Rattle.curve_laws.specs.Modulo.{plus, times, minus, over, inverse, power}
-use Rattle.curve_laws.proofs.Modular.{Same, same, same-eq, back, _then_, rest-of, products, sums}
-use Rattle.curve_laws.proofs.Jacobian.{Triple, triple, doubleM, doubleS, doubleX, doubleZ, lastY, fourthY, doubleWith, doubled, addH, addR, addX, addWith, affineX}
+use Rattle.curve_laws.proofs.Modular.{same, same-eq, _then_, rest-of, products, sums}
+use Rattle.curve_laws.proofs.Jacobian.{triple, doubleM, doubleS, doubleX, doubleZ, lastY, fourthY, doubleWith, doubled, addH, addR, addX, addWith, affineX}
 
 -- small multiples, by sums
 pub two : (p a : ℕ) → plus p a a ≡ times p 2 a

@@ -1,9 +1,9 @@
 -- `curve_vectors::answer` is safe: both lines fit the buffer.
-use mathlib.Core.Path.{_≡_, sym, _∙_}
+use mathlib.Core.Path.{_≡_, sym}
 use mathlib.Core.List.{List, [], _∷_, _++_}
 use Prim.Native.Nat.{ℕ, _+_, _*_, _≤_}
 use denote.Ref.{now}
-use lib.ListN.{length, take, length-append}
+use lib.ListN.{length, length-append}
 use lib.Seq.{length-take-le}
 use Rattle.notation.specs.Text.{hex, newline}
 use Rattle.notation.proofs.Hex.{length-hex}

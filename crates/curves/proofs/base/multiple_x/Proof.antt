@@ -1,5 +1,5 @@
 -- `base::multiple_x` meets its contract: the point goes into its forms, and x comes out of its own.
-use mathlib.Core.Path.{_≡_, ap, _∙_}
+use mathlib.Core.Path.{ap, _∙_}
 use Prim.Native.Nat.{ℕ}
 use lib.ListN.{length, take}
 use Rattle.field.proofs.Forms.{form-ones, value-ones}

@@ -1,10 +1,9 @@
 -- `base::scalar` meets its contract: the remainder, in the limbs that count.
-use mathlib.Core.Path.{_≡_, refl, sym, ap, _∙_}
-use mathlib.Core.List.{List}
+use mathlib.Core.Path.{_≡_, sym, ap, _∙_}
 use Prim.Native.Nat.{ℕ, _%_}
 use native.Mathlib.Omega.{arith}
 use denote.Ref.{now}
-use lib.ListN.{length, take, drop, length-append, length-drop}
+use lib.ListN.{length, drop, length-append, length-drop}
 use lib.Seq.{take-at, length-take-le}
 use Rattle.laws.specs.Bytes.{numberAfter, number}
 use Rattle.limbs.specs.Limbs.{value}

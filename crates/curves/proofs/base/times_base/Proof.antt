@@ -1,10 +1,8 @@
 -- `base::times_base` meets its contract.
-use mathlib.Core.Path.{_≡_, sym, ap, _∙_}
-use mathlib.Core.List.{List}
-use Prim.Native.Nat.{ℕ}
+use mathlib.Core.Path.{sym, ap, _∙_}
 use native.Mathlib.Omega.{arith}
 use denote.Ref.{now}
-use lib.ListN.{length, take}
+use lib.ListN.{length}
 use Rattle.laws.specs.Bytes.{bigEndian}
 use Rattle.curves.proofs.Domains.{first, by-limbs}
 use borrow.Author.Needs.{needs}

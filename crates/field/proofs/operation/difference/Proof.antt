@@ -1,10 +1,9 @@
 -- `operation::difference` meets its contract: what counts is replaced.
-use mathlib.Core.Path.{_≡_, refl, sym, ap, _∙_}
+use mathlib.Core.Path.{_∙_}
 use native.Mathlib.Omega.{arith}
 use denote.Ref.{now}
-use lib.ListN.{length, take}
 use native.Mathlib.Nat.{mod-lt}
-use Rattle.limbs.specs.Limbs.{value, Below}
+use Rattle.limbs.specs.Limbs.{Below}
 use Rattle.field.proofs.Forms as forms
 use borrow.Author.Needs.{needs}
 use Rattle.field.proofs.operation.difference.Statement.{statement}

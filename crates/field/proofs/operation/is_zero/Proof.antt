@@ -1,11 +1,10 @@
 -- `operation::is_zero` meets its contract: only 0 is less than 1, and only 0 holds 0.
-use mathlib.Core.Path.{_≡_, refl, sym, ap, _∙_}
-use native.Mathlib.Omega.{arith}
+use mathlib.Core.Path.{refl, sym, ap, _∙_}
 use denote.Ref.{now}
 use lib.ListN.{length, take}
-use Prim.Native.Nat.{ℕ, _<_}
+use Prim.Native.Nat.{ℕ}
 use lib.Dec.{ltb}
-use Rattle.limbs.specs.Limbs.{value, Below}
+use Rattle.limbs.specs.Limbs.{value}
 use Rattle.field.proofs.Forms as forms
 use borrow.Author.Needs.{needs}
 use Rattle.field.proofs.operation.is_zero.Statement.{statement}

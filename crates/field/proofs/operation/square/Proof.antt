@@ -1,9 +1,8 @@
 -- `operation::square` meets its contract: Montgomery's product of a form by itself.
-use mathlib.Core.Path.{_≡_, refl, sym, ap, _∙_}
+use mathlib.Core.Path.{refl, sym}
 use native.Mathlib.Omega.{arith}
 use denote.Ref.{now}
-use lib.ListN.{length, take}
-use Rattle.limbs.specs.Limbs.{value, Below}
+use lib.ListN.{length}
 use Rattle.field.proofs.Forms as forms
 use borrow.Author.Needs.{needs}
 use Rattle.field.proofs.operation.square.Statement.{statement}

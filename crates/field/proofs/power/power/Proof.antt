@@ -1,9 +1,7 @@
 -- `power::power` meets its contract: with some bits left, t is a to the number of the bits before them.
-use mathlib.Core.Path.{_≡_, refl, sym, ap, _∙_}
-use Prim.Native.Nat.{ℕ, _-_, _*_, _/_, _%_, _^_, _≤_}
+use Prim.Native.Nat.{_/_, _^_}
 use native.Mathlib.Omega.{arith}
 use borrow.Author.Needs.{needs}
-use lib.ListN.{length}
 use Rattle.limbs.specs.Limbs.{value}
 use Rattle.curve_laws.specs.Modulo.{power}
 use Rattle.field.specs.Montgomery.{plain, Holds}

@@ -1,5 +1,5 @@
 -- `power::turn` meets its contract, for either bit.
-use mathlib.Core.Path.{_≡_, sym, ap, _∙_}
+use mathlib.Core.Path.{_≡_, ap, _∙_}
 use Prim.Native.Nat.{ℕ}
 use native.Mathlib.Omega.{arith}
 use Rattle.limbs.specs.Limbs.{value}

@@ -1,9 +1,7 @@
 -- `bytes::byte` meets its contract: the byte lies in one limb.
-use mathlib.Core.Path.{_≡_, refl, sym, ap, _∙_}
-use Prim.Native.Nat.{ℕ, _+_, _-_, _*_, _/_, _%_, _^_, _≤_, _<_}
-use lib.ListN.{length, getD, drop}
+use mathlib.Core.Path.{ap, _∙_}
+use Prim.Native.Nat.{ℕ, _*_, _/_, _%_, _^_}
 use denote.Ref.{now}
-use Rattle.limbs.specs.Limbs.{value, Below}
 use Rattle.limbs.proofs.Digits.{digit}
 use native.Mathlib.Omega.{arith}
 use borrow.Author.Needs.{needs}

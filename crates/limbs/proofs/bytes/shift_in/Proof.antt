@@ -1,7 +1,6 @@
 -- `bytes::shift_in` meets its contract: with some bits left, t is that at first with the bits before them after it, modulo m.
-use mathlib.Core.Path.{_≡_, refl, sym, ap, _∙_}
-use Prim.Native.Nat.{ℕ, _+_, _-_, _*_, _/_, _%_, _^_, _≤_, _<_}
-use lib.ListN.{length, getD, drop}
+use mathlib.Core.Path.{_≡_, sym, ap, _∙_}
+use Prim.Native.Nat.{ℕ, _+_, _-_, _*_, _/_, _%_, _^_, _≤_}
 use denote.Ref.{now}
 use Rattle.limbs.specs.Limbs.{over, value, Below}
 use native.Mathlib.Nat.{mod-lt, mod-eq-of-lt, div-one}

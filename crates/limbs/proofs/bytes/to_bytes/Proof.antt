@@ -1,9 +1,9 @@
 -- `bytes::to_bytes` meets its contract: the loop puts the bytes in front, one a turn.
 use mathlib.Core.Path.{_≡_, refl, sym, ap, _∙_}
-use Prim.Native.Nat.{ℕ, _+_, _-_, _*_, _/_, _%_, _^_, _≤_, _<_}
-use lib.ListN.{length, getD, drop}
+use Prim.Native.Nat.{ℕ, _-_, _*_, _/_, _%_, _^_, _≤_}
+use lib.ListN.{length, getD}
 use denote.Ref.{now}
-use Rattle.limbs.specs.Limbs.{value, Below}
+use Rattle.limbs.specs.Limbs.{value}
 use lib.ListN.{length-set}
 use Rattle.laws.specs.Bytes.{bigEndian, tabulate}
 use Rattle.laws.proofs.Tabulate.{filledTo, filled-none, filled-turn, filled-all, tabulate-getD}

@@ -1,12 +1,9 @@
 -- `modular::add_mod` meets its contract: the sum is below 2 m.
-use mathlib.Core.Path.{_≡_, refl, sym, ap, _∙_}
-use Prim.Native.Nat.{ℕ, _+_, _-_, _*_, _%_, _≤_}
-use native.Mathlib.Nat.{mod-eq-of-lt}
+use mathlib.Core.Path.{_≡_, ap, _∙_}
+use Prim.Native.Nat.{ℕ, _+_, _%_}
 use native.Mathlib.Omega.{arith}
-use mathlib.Core.Logic.{⊎-elim}
 use denote.Ref.{now}
 use Rattle.limbs.specs.Limbs.{over, value}
-use Rattle.limbs.proofs.Limbs.{Limbs, over-none}
 use borrow.Author.Needs.{needs}
 use Rattle.limbs.proofs.modular.add_mod.Statement.{statement}
 use Rattle.limbs.proofs.modular.add_mod.Tie as tie

@@ -1,13 +1,13 @@
 -- `modular::reduce_once` meets its contract: below m with nothing above it t is the remainder, else t less m is.
-use mathlib.Core.Path.{_≡_, refl, sym, ap, _∙_}
-use Prim.Native.Nat.{ℕ, _+_, _-_, _*_, _%_, _≤_, _<_}
+use mathlib.Core.Path.{sym, ap, _∙_}
+use Prim.Native.Nat.{ℕ, _%_, _<_}
 use native.Mathlib.Nat.{mod-eq-of-lt}
 use native.Mathlib.Omega.{arith}
 use mathlib.Core.Logic.{⊎-elim}
 use borrow.Author.Tests.{ltb-true, ltb-false}
 use denote.Ref.{now}
 use Rattle.limbs.specs.Limbs.{over, value}
-use Rattle.limbs.proofs.Limbs.{Limbs, over-none}
+use Rattle.limbs.proofs.Limbs.{over-none}
 use Rattle.limbs.proofs.Reduced.{reduced}
 use borrow.Author.Needs.{needs}
 use Rattle.limbs.proofs.modular.reduce_once.Statement.{statement}

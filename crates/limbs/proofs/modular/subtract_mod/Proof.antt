@@ -1,12 +1,6 @@
 -- `modular::subtract_mod` meets its contract: where the one lent above t was used, m pays it back.
-use mathlib.Core.Path.{_≡_, refl, sym, ap, _∙_}
-use Prim.Native.Nat.{ℕ, _+_, _-_, _*_, _%_, _≤_}
-use native.Mathlib.Nat.{mod-eq-of-lt}
 use native.Mathlib.Omega.{arith}
-use mathlib.Core.Logic.{⊎-elim}
 use denote.Ref.{now}
-use Rattle.limbs.specs.Limbs.{over, value}
-use Rattle.limbs.proofs.Limbs.{Limbs, over-none}
 use Rattle.limbs.proofs.Reduced.{kept, borrowed}
 use borrow.Author.Needs.{needs}
 use Rattle.limbs.proofs.modular.subtract_mod.Statement.{statement}

@@ -1,6 +1,6 @@
 -- `montgomery::montgomery` meets its contract: after i steps B^i times t is the product of a's lowest i limbs by b modulo m,
 -- and t is below 2 m, so that one reduction ends it.
-use mathlib.Core.Path.{_≡_, refl, sym, ap, _∙_}
+use mathlib.Core.Path.{_≡_, sym, ap, _∙_}
 use Prim.Native.Nat.{ℕ, _+_, _-_, _*_, _^_, _≤_, _<_}
 use native.Mathlib.Nat.{mod-lt}
 use lib.ListN.{length, getD, take}
@@ -8,7 +8,6 @@ use mathlib.Core.List.{List}
 use lib.Seq.{take-all}
 use denote.Ref.{now}
 use Rattle.limbs.specs.Limbs.{over, value, quotient}
-use Rattle.limbs.proofs.Limbs.{over-none}
 use Rattle.limbs.proofs.Products.{value-take, quotient-less, stays-below, goes-on, product-at}
 use native.Mathlib.Omega.{arith}
 use borrow.Author.Needs.{needs}

@@ -1,7 +1,7 @@
 -- `montgomery::step` meets its contract: the base times the limbs written, with the carries and what is left of the sum above
 -- them, makes the sum.
-use mathlib.Core.Path.{_≡_, refl, sym, ap, _∙_}
-use Prim.Native.Nat.{ℕ, _+_, _-_, _*_, _%_, _≤_, _<_}
+use mathlib.Core.Path.{_≡_, refl, ap, _∙_}
+use Prim.Native.Nat.{ℕ, _+_, _-_, _*_, _≤_, _<_}
 use lib.ListN.{length, getD, take, drop, length-set}
 use denote.Ref.{now}
 use Rattle.limbs.specs.Limbs.{over, value}

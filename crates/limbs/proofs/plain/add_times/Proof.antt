@@ -1,7 +1,7 @@
 -- `plain::add_times` meets its contract: the limbs written, with the carry and what is left of t + x b above them, make the whole.
-use mathlib.Core.Path.{_≡_, refl, sym, ap, _∙_}
-use Prim.Native.Nat.{ℕ, _+_, _-_, _*_, _/_, _%_, _≤_, _<_}
-use lib.ListN.{length, getD, take, drop, set, length-set}
+use mathlib.Core.Path.{_≡_, ap, _∙_}
+use Prim.Native.Nat.{ℕ, _+_, _-_, _*_, _≤_}
+use lib.ListN.{length, take, drop, length-set}
 use Rattle.limbs.specs.Limbs.{over, value}
 use Rattle.limbs.proofs.Limbs.{over-last, value-end}
 use Rattle.limbs.proofs.Turns.{times-turn}

@@ -1,13 +1,12 @@
 -- `plain::less` meets its contract: above limb i the two numbers are the same.
 use mathlib.Core.Path.{_≡_, sym, _∙_}
-use Prim.Native.Nat.{ℕ, _+_, _-_, _*_, _≤_}
-use lib.ListN.{length, getD, take, drop}
+use Prim.Native.Nat.{_≤_}
+use lib.ListN.{length, drop}
 use denote.Ref.{now}
 use borrow.Author.Tests.{lt-ltb, le-ltb}
-use Rattle.limbs.specs.Limbs.{over, value}
+use Rattle.limbs.specs.Limbs.{value}
 use Rattle.limbs.proofs.Limbs.{less-below, value-below, value-end}
 use native.Mathlib.Omega.{arith}
-use borrow.Author.Needs.{needs}
 use Rattle.limbs.proofs.plain.less.Statement.{statement}
 use Rattle.limbs.proofs.plain.less.Tie as tie
 

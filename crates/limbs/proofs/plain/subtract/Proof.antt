@@ -1,6 +1,6 @@
 -- `plain::subtract` meets its contract: whatever makes up what is left of the difference makes, above the limbs written, the whole.
 use mathlib.Core.Path.{_≡_, refl, ap, _∙_}
-use Prim.Native.Nat.{ℕ, _+_, _-_, _*_, _≤_}
+use Prim.Native.Nat.{ℕ, _+_, _-_, _≤_}
 use lib.ListN.{length, take, drop, length-set}
 use denote.Ref.{now}
 use Rattle.limbs.specs.Limbs.{over, value}

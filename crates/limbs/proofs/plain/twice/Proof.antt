@@ -1,6 +1,6 @@
 -- `plain::twice` meets its contract: the limbs written, with the carry and the double of what is left above them, make the whole.
-use mathlib.Core.Path.{_≡_, ap, _∙_}
-use Prim.Native.Nat.{ℕ, _+_, _-_, _*_, _≤_}
+use mathlib.Core.Path.{_≡_, _∙_}
+use Prim.Native.Nat.{_+_, _-_, _*_, _≤_}
 use lib.ListN.{length, take, drop, length-set}
 use denote.Ref.{now}
 use Rattle.limbs.specs.Limbs.{over, value}

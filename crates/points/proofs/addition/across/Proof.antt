@@ -1,7 +1,7 @@
 -- `addition::across` meets its contract.
 use mathlib.Core.Path.{ap}
 use Prim.Native.Nat.{ℕ}
-use Rattle.curve_laws.specs.Modulo.{times, minus}
+use Rattle.curve_laws.specs.Modulo.{minus}
 use denote.Ref.{now}
 use Rattle.limbs.specs.Limbs.{value}
 use Rattle.field.specs.Montgomery.{plain}

@@ -1,6 +1,6 @@
 -- `addition::add` meets its contract: the tests are those of the rule.
 use mathlib.Core.Path.{_≡_, refl, sym, _∙_}
-use mathlib.Core.Bool.{Bool, true, false, _&&_}
+use mathlib.Core.Bool.{false, _&&_}
 use mathlib.Core.Logic.{⊎-elim}
 use lib.Dec.{eqb}
 use Rattle.points.proofs.Formulas.{across-is, up-is}
