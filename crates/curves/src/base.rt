@@ -1,9 +1,9 @@
 // The multiple of the base point by a number, for any curve.
 use super::Domain;
+use digits::remainder;
+use digits::to_bytes;
 use field::form::into;
 use field::form::out;
-use limbs::bytes::remainder;
-use limbs::bytes::to_bytes;
 use points::multiple::affine_x;
 use points::multiple::multiple;
 ghost use mathlib.Core.Path.{_≡_};

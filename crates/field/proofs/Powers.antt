@@ -8,7 +8,7 @@ use lib.ListN.{length}
 use lib.Pow.{pow-add, shr-shr}
 use Rattle.limbs.specs.Limbs.{value}
 use Rattle.limbs.proofs.Limbs.{Limbs, value-end}
-use Rattle.limbs.proofs.Digits.{value-high}
+use Rattle.digits.proofs.Digits.{value-high}
 use Rattle.curve_laws.specs.Modulo.{times, power}
 use Rattle.curve_laws.proofs.Modular.{Same, same, same-eq, _then_, rest-of, products}
 use Rattle.curve_laws.proofs.Powers.{power-one}

@@ -1,7 +1,7 @@
 // Powers of a form, by squares: the exponent's bits from the top.
 use super::operation::product;
 use super::operation::square;
-use limbs::bytes::bit;
+use digits::bit;
 ghost use Prim.Native.Nat.{_*_, _%_, _^_, _≤_};
 ghost use lib.ListN.{length};
 ghost use Rattle.limbs.specs.Limbs.{value};

@@ -3,4 +3,3 @@ pub mod Turns
 pub mod Reduced
 pub mod Steps
 pub mod Products
-pub mod Digits

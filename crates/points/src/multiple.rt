@@ -2,9 +2,9 @@
 use super::Jacobian;
 use super::addition::add;
 use super::doubling::double;
+use digits::bit;
 use field::operation::product;
 use field::power::power;
-use limbs::bytes::bit;
 ghost use mathlib.Core.Path.{_≡_};
 ghost use Prim.Native.Nat.{_-_, _≤_};
 ghost use lib.ListN.{length};

@@ -1,11 +1,11 @@
 // Numbers from bytes and to bytes, the most significant byte first, and the bits of a number.
-use super::modular::reduce_once;
-use super::plain::twice;
+use limbs::modular::reduce_once;
+use limbs::plain::twice;
 ghost use mathlib.Core.Path.{_≡_};
 ghost use Prim.Native.Nat.{_+_, _*_, _/_, _%_, _^_};
 ghost use lib.ListN.{length, getD};
 ghost use Rattle.laws.specs.Bytes.{bigEndian, numberAfter};
 ghost use Rattle.limbs.specs.Limbs.{value, Below};
 
 // t with a byte after it, modulo m: its bits are shifted in, the highest first
 fn shift_in(t: &mut [u32], byte: u8, m: &[u32])

@@ -1,4 +1,4 @@
--- `bytes::remainder` meets its contract: t with the bytes that are left after it is, modulo m, the whole.
+-- `digits::remainder` meets its contract: t with the bytes that are left after it is, modulo m, the whole.
 use mathlib.Core.Path.{_≡_, refl, sym, ap, _∙_}
 use mathlib.Core.List.{List, _∷_}
 use Prim.Native.Nat.{ℕ, _+_, _-_, _*_, _%_, _≤_}
@@ -10,10 +10,10 @@ use lib.ListN.{length, getD, drop, drop-of-length-le}
 use lib.Seq.{drop-cons}
 use denote.Ref.{now}
 use Rattle.laws.specs.Bytes.{numberAfter}
 use Rattle.limbs.specs.Limbs.{value, Below}
-use Rattle.limbs.proofs.Digits.{after-mod}
-use Rattle.limbs.proofs.bytes.remainder.Statement.{statement}
-use Rattle.limbs.proofs.bytes.remainder.Tie as tie
+use Rattle.digits.proofs.Digits.{after-mod}
+use Rattle.digits.proofs.remainder.Statement.{statement}
+use Rattle.digits.proofs.remainder.Tie as tie
 
 abbrev Inv-loop : tie.InvT-loop
 Inv-loop t₀ bytes m i₀ t i =

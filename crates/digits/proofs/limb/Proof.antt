@@ -1,11 +1,11 @@
--- `bytes::limb` meets its contract.
+-- `digits::limb` meets its contract.
 use mathlib.Core.Path.{sym}
 use denote.Ref.{now}
 use lib.ListN.{List·getD-eq-default}
 use borrow.Author.Needs.{needs}
 use borrow.Author.Needs.{needs}
-use Rattle.limbs.proofs.bytes.limb.Statement.{statement}
-use Rattle.limbs.proofs.bytes.limb.Tie as tie
+use Rattle.digits.proofs.limb.Statement.{statement}
+use Rattle.digits.proofs.limb.Tie as tie
 
 mul-result : tie.Need-mul-result
 mul-result c = search needs

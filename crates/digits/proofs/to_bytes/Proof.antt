@@ -1,17 +1,17 @@
--- `bytes::to_bytes` meets its contract: the loop puts the bytes in front, one a turn.
+-- `digits::to_bytes` meets its contract: the loop puts the bytes in front, one a turn.
 use mathlib.Core.Path.{_≡_, refl, sym, ap, _∙_}
 use Prim.Native.Nat.{ℕ, _-_, _*_, _/_, _%_, _^_, _≤_}
 use lib.ListN.{length, getD}
 use denote.Ref.{now}
 use Rattle.limbs.specs.Limbs.{value}
 use lib.ListN.{length-set}
 use Rattle.laws.specs.Bytes.{bigEndian, tabulate}
 use Rattle.laws.proofs.Tabulate.{filledTo, filled-none, filled-turn, filled-all, tabulate-getD}
 use Rattle.laws.proofs.BigEndian.{length-bigEndian, getD-bigEndian}
 use native.Mathlib.Omega.{arith}
 use borrow.Author.Needs.{needs}
-use Rattle.limbs.proofs.bytes.to_bytes.Statement.{statement}
-use Rattle.limbs.proofs.bytes.to_bytes.Tie as tie
+use Rattle.digits.proofs.to_bytes.Statement.{statement}
+use Rattle.digits.proofs.to_bytes.Tie as tie
 
 abbrev Inv-loop : tie.InvT-loop
 Inv-loop out₀ t i₀ out i =

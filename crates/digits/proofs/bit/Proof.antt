@@ -1,13 +1,13 @@
--- `bytes::bit` meets its contract: the bit lies in one limb.
+-- `digits::bit` meets its contract: the bit lies in one limb.
 use mathlib.Core.Path.{ap, _∙_}
 use Prim.Native.Nat.{ℕ, _/_, _%_, _^_}
 use denote.Ref.{now}
-use Rattle.limbs.proofs.Digits.{digit}
+use Rattle.digits.proofs.Digits.{digit}
 use native.Mathlib.Omega.{arith}
 use borrow.Author.Needs.{needs}
 use borrow.Author.Needs.{needs}
-use Rattle.limbs.proofs.bytes.bit.Statement.{statement}
-use Rattle.limbs.proofs.bytes.bit.Tie as tie
+use Rattle.digits.proofs.bit.Statement.{statement}
+use Rattle.digits.proofs.bit.Tie as tie
 
 limb-requires : tie.Need-limb-requires
 limb-requires c κs = search needs

@@ -1,14 +1,14 @@
--- `bytes::shift_in` meets its contract: with some bits left, t is that at first with the bits before them after it, modulo m.
+-- `digits::shift_in` meets its contract: with some bits left, t is that at first with the bits before them after it, modulo m.
 use mathlib.Core.Path.{_≡_, sym, ap, _∙_}
 use Prim.Native.Nat.{ℕ, _+_, _-_, _*_, _/_, _%_, _^_, _≤_}
 use denote.Ref.{now}
 use Rattle.limbs.specs.Limbs.{over, value, Below}
 use native.Mathlib.Nat.{mod-lt, mod-eq-of-lt, div-one}
-use Rattle.limbs.proofs.Digits.{bit-turn}
+use Rattle.digits.proofs.Digits.{bit-turn}
 use native.Mathlib.Omega.{arith}
 use borrow.Author.Needs.{needs}
-use Rattle.limbs.proofs.bytes.shift_in.Statement.{statement}
-use Rattle.limbs.proofs.bytes.shift_in.Tie as tie
+use Rattle.digits.proofs.shift_in.Statement.{statement}
+use Rattle.digits.proofs.shift_in.Tie as tie
 
 abbrev Inv-loop : tie.InvT-loop
 Inv-loop t₀ byte m left₀ t left =
