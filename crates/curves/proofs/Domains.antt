@@ -1,0 +1,134 @@
+-- A curve's limbs, checked by computed tests, and the multiple by the domain's numbers as the multiple on the curve.
+use mathlib.Core.Path.{_≡_, ap, _∙_}
+use mathlib.Core.List.{List}
+use Prim.Native.Nat.{ℕ, _+_, _-_, _*_, _%_, _^_, _≤_, _<_}
+use native.Mathlib.Nat.{mod-lt}
+use native.Mathlib.Omega.{arith}
+use lib.Dec.{T, leb, ltb, eqb, leb→le, ltb→lt, eqb→eq}
+use lib.ListN.{length, getD, take}
+use lib.Seq.{length-take-le}
+use Rattle.laws.specs.Bytes.{bigEndian, number}
+use Rattle.limbs.specs.Limbs.{value}
+use Rattle.field.specs.Montgomery.{Form}
+use Rattle.curve_laws.specs.Points.{Point, at, xOf, yOf}
+use Rattle.curve_laws.specs.Curves.{Curve, xTimesG}
+use Rattle.curve_laws.specs.Valid.{Valid}
+use Rattle.curve_laws.proofs.Jacobian.{binary, affineX}
+use Rattle.curve_laws.proofs.Scalar.{x-by-binary}
+use Rattle.curves.specs.declared.Domain.{Domain}
+use Rattle.curves.specs.Base.{prime, order, baseX, baseY, Of, Usable, Binary, Multiple}
+
+abbrev Formed : List ℕ → List ℕ → Type 0
+Formed m a = T (eqb (length a) 8) × T (eqb (length (take (length m) a)) (length m)) × T (ltb (value (take (length m) a)) (value m))
+
+formed : (m a : List ℕ) → Formed m a → Form m a
+formed m a t =
+    record {
+      whole = eqb→eq (length a) 8 (t .0);
+      below =
+          record {
+            width = eqb→eq (length (take (length m) a)) (length m) (t .1);
+            less = ltb→lt (value (take (length m) a)) (value m) (t .2);
+          };
+    }
+
+abbrev pub Matches : Curve → Domain → Type 0
+Matches c d =
+    T (eqb (prime d) (c .p))
+    × (at (baseX d) (baseY d) ≡ c .G)
+    × T (eqb (order d) (c .n))
+    × T (leb (c .n) (2 ^ d .bits))
+
+abbrev pub Works : Domain → Type 0
+Works d =
+    let m = take (d .width) (d .p) in
+    T (leb (d .width) 8)
+    × T (ltb 0 (length m))
+    × T (eqb ((getD m 0 0 * d .inv + 1) % 4294967296) 0)
+    × T (leb (length m) 8)
+    × T (ltb 1 (value m))
+    × Formed m (d .square)
+    × T (eqb (value (take (length m) (d .square))) (4294967296 ^ length m * 4294967296 ^ length m % value m))
+    × T (eqb (value (take (d .width) (d .exponent))) (value m - 2))
+    × Formed m (d .x)
+    × Formed m (d .y)
+    × T (leb (d .span) 8)
+    × T (ltb 0 (order d))
+    × T (eqb (length (d .p)) 8)
+    × T (eqb (length (d .exponent)) 8)
+    × T (eqb (length (d .n)) 8)
+
+pub matches : (c : Curve) (d : Domain) → Matches c d → Of c d
+matches c d t =
+    record {
+      p = eqb→eq (prime d) (c .p) (t .0);
+      G = t .1;
+      n = eqb→eq (order d) (c .n) (t .2);
+      bits = leb→le (c .n) (2 ^ d .bits) (t .3);
+    }
+
+pub works : (d : Domain) → Works d → Usable d
+works d t =
+    let m : List ℕ = take (d .width) (d .p) in
+    record {
+      p-whole = eqb→eq (length (d .p)) 8 (t .12);
+      exponent-whole = eqb→eq (length (d .exponent)) 8 (t .13);
+      n-whole = eqb→eq (length (d .n)) 8 (t .14);
+      narrow = leb→le (d .width) 8 (t .0);
+      field =
+          record {
+            modulus = record { some = ltb→lt 0 (length m) (t .1); inverse = eqb→eq ((getD m 0 0 * d .inv + 1) % 4294967296) 0 (t .2) };
+            narrow = leb→le (length m) 8 (t .3);
+            large = ltb→lt 1 (value m) (t .4);
+          };
+      square =
+          record {
+            form = formed m (d .square) (t .5);
+            is = eqb→eq (value (take (length m) (d .square))) (4294967296 ^ length m * 4294967296 ^ length m % value m) (t .6);
+          };
+      exponent = eqb→eq (value (take (d .width) (d .exponent))) (value m - 2) (t .7);
+      x = formed m (d .x) (t .8);
+      y = formed m (d .y) (t .9);
+      span-narrow = leb→le (d .span) 8 (t .10);
+      order-some = ltb→lt 0 (order d) (t .11);
+    }
+
+-- the first limbs of eight
+pub first : (k : ℕ) (l : List ℕ) → k ≤ 8 → length l ≡ 8 → length (take k l) ≡ k
+first k l h e = length-take-le k l (omega arith)
+
+-- r and x as limbs
+pub by-limbs : (d : Domain) → Usable d → (bytes r found : List ℕ)
+    → value (take (length (take (d .span) (d .n))) r) ≡ number bytes % order d
+    → value (take (length (take (d .width) (d .p))) found)
+    ≡ affineX (prime d) (binary (prime d) (value (take (length (take (d .width) (d .p))) (d .x))) (value (take (length (take (d .width) (d .p))) (d .y))) (d .bits) (value (take (d .span) r)))
+    → (value (take (d .span) r) ≡ number bytes % order d)
+    × (value (take (d .width) found) ≡ affineX (prime d) (binary (prime d) (baseX d) (baseY d) (d .bits) (number bytes % order d)))
+by-limbs d u bytes r found e f =
+    let of-n : length (take (d .span) (d .n)) ≡ d .span = first (d .span) (d .n) (u .span-narrow) (u .n-whole) in
+    let of-p : length (take (d .width) (d .p)) ≡ d .width = first (d .width) (d .p) (u .narrow) (u .p-whole) in
+    let scalar : value (take (d .span) r) ≡ number bytes % order d = rw of-n at e in
+    let side : value (take (d .width) found) ≡ affineX (prime d) (binary (prime d) (baseX d) (baseY d) (d .bits) (value (take (d .span) r))) = rw of-p at f in
+    (scalar, side ∙ ap (λ (k : ℕ). affineX (prime d) (binary (prime d) (baseX d) (baseY d) (d .bits) k)) scalar)
+
+-- the x coordinate on the curve, for a number below its order
+side-of : (c : Curve) → Valid c → c .a + 3 ≡ c .p → (d : Domain) → Of c d → (r : ℕ) → r < c .n
+    → affineX (prime d) (binary (prime d) (baseX d) (baseY d) (d .bits) r) ≡ xTimesG c r
+unfolding xOf yOf
+side-of c valid three d of r l =
+    ap (λ (q : ℕ). affineX q (binary q (baseX d) (baseY d) (d .bits) r)) (of .p)
+    ∙ ap (λ (Q : Point). affineX (c .p) (binary (c .p) (xOf Q) (yOf Q) (d .bits) r)) (of .G)
+    ∙ x-by-binary c valid three (d .bits) r (omega (arith, of .bits))
+
+pub on-curve : (c : Curve) → Valid c → c .a + 3 ≡ c .p → (d : Domain) → Of c d → 0 < order d → (bytes r x : List ℕ) (size : ℕ)
+    → Binary d bytes size r x → Multiple c bytes size r x
+on-curve c valid three d of some bytes r x size h =
+    let n = c .n in
+    let below : number bytes % c .n < c .n = mod-lt (number bytes) (omega (arith, of .n)) in
+    record {
+      scalar = h .scalar ∙ ap (λ (k : ℕ). bigEndian 32 (number bytes % k)) (of .n);
+      side =
+          h .side
+          ∙ ap (λ (k : ℕ). bigEndian size (affineX (prime d) (binary (prime d) (baseX d) (baseY d) (d .bits) (number bytes % k)))) (of .n)
+          ∙ ap (bigEndian size) (side-of c valid three d of (number bytes % c .n) below);
+    }

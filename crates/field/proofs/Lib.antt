@@ -1,0 +1,3 @@
+pub mod Units
+pub mod Forms
+pub mod Powers

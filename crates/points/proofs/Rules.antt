@@ -1,0 +1,74 @@
+-- Which rule applies: the tests of the code and those of the definition; and the binary method, a bit a turn.
+use mathlib.Core.Path.{_≡_, refl, sym, ap, _∙_, subst}
+use mathlib.Core.Bool.{Bool, true, false, _&&_}
+use mathlib.Core.List.{List}
+use Prim.Native.Nat.{ℕ, _+_, _-_, _/_, _%_, _^_, _<_}
+use native.Mathlib.Nat.{div-one}
+use native.Mathlib.Numerals.{add-one}
+use native.Mathlib.Omega.{arith}
+use lib.Dec.{eqb}
+use lib.Pow.{shr-shr}
+use borrow.Author.Tests.{eq-eqb, ne-eqb}
+use Rattle.curve_laws.proofs.Jacobian.{Triple, triple, doubled, addH, addR, addWith, added, turn, binary}
+use Rattle.points.specs.declared.Jacobian.{Jacobian}
+use Rattle.points.specs.Coordinates.{coordinates, Held}
+
+pub held-as : {m : List ℕ} {inv : ℕ} {j : Jacobian} {s t : Triple} → Held m inv j s → s ≡ t → Held m inv j t
+held-as {m} {inv} {j} h e = subst (λ (t : Triple). Held m inv j t) e h
+
+module _ (p x y X Y Z : ℕ) where
+  pub added-none : eqb Z 0 ≡ true → triple x y 1 ≡ added p x y (triple X Y Z)
+  unfolding added
+  added-none e = sym (rw e)
+
+  module _ (some : eqb Z 0 ≡ false) {H R : ℕ} (across : H ≡ addH p x X Z) (up : R ≡ addR p y Y Z) where
+    pub added-same : eqb H 0 ≡ true → eqb R 0 ≡ true → doubled p (triple X Y Z) ≡ added p x y (triple X Y Z)
+    unfolding added
+    added-same e f = rw (← across, ← up, some, e, f)
+
+    pub added-other : (eqb H 0 && eqb R 0) ≡ false → addWith p H R (triple X Y Z) ≡ added p x y (triple X Y Z)
+    unfolding added
+    added-other e = rw (← across, ← up, some, e)
+
+pub not-up : (a b : Bool) → a ≡ true → b ≡ false → (a && b) ≡ false
+not-up a b e f = rw (e, f)
+
+pub not-across : (a b : Bool) → a ≡ false → (a && b) ≡ false
+not-across a b e = rw e
+
+-- what a point holds
+pub held-coordinates : {m : List ℕ} {inv : ℕ} {j : Jacobian} {t : Triple} → Held m inv j t → coordinates m inv j ≡ t
+held-coordinates h = rw (h .x .holds, h .y .holds, h .z .holds)
+
+-- a turn of the binary method, for either bit
+module _ (p x y : ℕ) (j : Triple) where
+  pub turn-double : (bit : ℕ) → bit ≡ 0 → doubled p j ≡ turn p x y bit j
+  unfolding turn
+  turn-double bit e = sym (rw (eq-eqb bit 0 e))
+
+  pub turn-add : (bit : ℕ) {d : Triple} → (bit ≡ 0 → ⊥) → d ≡ doubled p j → added p x y d ≡ turn p x y bit j
+  unfolding turn
+  turn-add bit n e = rw e (sym (rw (ne-eqb bit 0 n)))
+
+-- from the highest bit down: after i turns the point is the multiple by the i highest of r's bits
+pub binary-start : (p x y bits r : ℕ) → triple 1 1 0 ≡ binary p x y 0 (r / 2 ^ (bits - 0))
+unfolding binary
+binary-start p x y bits r = refl
+
+pub binary-turn : (p x y bits r i bit : ℕ) {j : Triple} → i < bits → j ≡ binary p x y i (r / 2 ^ (bits - i))
+    → bit ≡ r / 2 ^ (bits - 1 - i) % 2 → turn p x y bit j ≡ binary p x y (i + 1) (r / 2 ^ (bits - (i + 1)))
+unfolding binary
+binary-turn p x y bits r i bit {j} h e f =
+    let place : bits - 1 - i ≡ bits - (i + 1) = omega arith in
+    let above : bits - (i + 1) + 1 ≡ bits - i = omega arith in
+    let half : r / 2 ^ (bits - (i + 1)) / 2 ≡ r / 2 ^ (bits - i) = shr-shr r (bits - (i + 1)) 1 ∙ ap (λ (k : ℕ). r / 2 ^ k) above in
+    ap (λ (k : ℕ). turn p x y k j) (f ∙ ap (λ (k : ℕ). r / 2 ^ k % 2) place)
+    ∙ ap (λ (t : Triple). turn p x y (r / 2 ^ (bits - (i + 1)) % 2) t) (e ∙ ap (λ (k : ℕ). binary p x y i k) (sym half))
+    ∙ ap (λ (k : ℕ). binary p x y k (r / 2 ^ (bits - (i + 1)))) (sym (add-one i))
+
+pub binary-end : (p x y bits r i : ℕ) → i ≡ bits → binary p x y i (r / 2 ^ (bits - i)) ≡ binary p x y bits r
+binary-end p x y bits r i e =
+    let none : bits - i ≡ 0 = omega arith in
+    ap (λ (k : ℕ). binary p x y k (r / 2 ^ (bits - i))) e
+    ∙ ap (λ (k : ℕ). binary p x y bits (r / 2 ^ k)) none
+    ∙ ap (λ (k : ℕ). binary p x y bits k) (div-one r)
