@@ -8,8 +8,9 @@ use native.Mathlib.Numerals.{add-one}
 use native.Mathlib.Decide.{decLt}
 use lib.ListN.{length, getD}
 use Rattle.laws.specs.Bytes.{tabulate, bigEndian}
-use Rattle.hash.specs.Sha256.{zeros, pad, block, H⁰, compress, hashValue, digest, SHA256}
-use Rattle.hash.specs.declared.Working.{Working}
+use Rattle.hash.specs.Sha256.{zeros, pad, block, H⁰, hashValue, digest, SHA256}
+use Rattle.compression.specs.Compression.{compress}
+use Rattle.compression.specs.declared.Working.{Working}
 use Rattle.hash.proofs.Padded.{length-pad, length-parts}
 
 -- byte i of words of 32 bits

@@ -10,7 +10,7 @@ use Rattle.laws.specs.Bytes.{bigEndian}
 use Rattle.laws.proofs.Tabulate.{getD-tabulate}
 use Rattle.hash.specs.Sha256.{zeros, pad, digest, SHA256}
 use Rattle.hash.specs.Hmac.{HMAC}
-use Rattle.hash.specs.declared.Working.{Working}
+use Rattle.compression.specs.declared.Working.{Working}
 use Rattle.hash.proofs.Hashed.{byteOf, digest-bytes, zeros-low, zeros-high, length-blocks}
 
 length-digest : (H : Working) → length (digest H) ≡ 32

@@ -1,5 +1,3 @@
-pub mod Words
-pub mod Turns
 pub mod Padded
 pub mod Hashed
 pub mod Keys

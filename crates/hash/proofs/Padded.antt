@@ -7,7 +7,7 @@ use lib.ListN.{length, getD, take, drop, replicate, length-append, length-replic
 use Rattle.laws.specs.Bytes.{bigEndian, number}
 use Rattle.laws.proofs.Joined.{getD-after, run-before, run-after}
 use Rattle.laws.proofs.BigEndian.{length-bigEndian, getD-bigEndian}
-use Rattle.laws.proofs.Tabulate.{tabulate-ext}
+use Rattle.laws.proofs.Tabulate.{length-tabulate, tabulate-ext}
 use Rattle.hash.specs.Sha256.{zeros, padding, pad, wordsAt, block}
 
 -- a byte of a message of four parts
@@ -72,6 +72,10 @@ pad-parts m = refl
 pub block-words : (p : List ℕ) (i : ℕ) → wordsAt p (64 * i) ≡ block p i
 unfolding block
 block-words p i = refl
+
+pub length-block : (p : List ℕ) (i : ℕ) → length (block p i) ≡ 16
+unfolding block wordsAt
+length-block p i = length-tabulate 16 (λ t. number (take 4 (drop (64 * i + 4 * t) p)))
 
 -- the words of a block that lies in the first of two parts, and in the second
 module _ (xs ys : List ℕ) (k : ℕ) where

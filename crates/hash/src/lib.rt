@@ -1,19 +1,13 @@
 // SHA-256 (FIPS 180-4) and HMAC (RFC 2104) over a message handed in as parts.
 
-// The six functions on words of 32 bits.
-mod word;
-// The message schedule, sixteen words at a time.
-mod schedule;
 // The padded message.
 mod message;
-// One block.
-mod compress;
 // The hash value.
 mod value;
 // The key of HMAC.
 mod key;
 
-use compress::compress;
+use compression::compress;
 use key::key_block;
 use key::masked;
 use message::load;
@@ -24,18 +18,6 @@ ghost use lib.ListN.{length};
 ghost use Rattle.hash.specs.Sha256.{SHA256};
 ghost use Rattle.hash.specs.Hmac.{HMAC};
 
-// Eight words of 32 bits: the working variables a to h of FIPS 180-4, and the hash value H0 to H7.
-pub struct Working {
-    pub a: u32,
-    pub b: u32,
-    pub c: u32,
-    pub d: u32,
-    pub e: u32,
-    pub f: u32,
-    pub g: u32,
-    pub h: u32,
-}
-
 // SHA-256 of the four parts, one after another, as one message shorter than 2^64 bits. No part is copied.
 pub fn digest(first: &[u8], head: &[u8], tail: &[u8], last: &[u8]) -> [u8; 32]
     requires { ⌜ length (now first) + length (now head) + length (now tail) + length (now last) < 2 ^ 61 ⌝ }
@@ -43,11 +25,12 @@ pub fn digest(first: &[u8], head: &[u8], tail: &[u8], last: &[u8]) -> [u8; 32]
 {
     let n = first.len() + head.len() + tail.len() + last.len();
     let blocks = (n + 8) / 64 + 1;
+    let mut words = [0u32; 16];
     let mut state = value::initial();
     let mut i: usize = 0;
     while i < blocks {
-        let words = load(first, head, tail, last, i);
-        state = compress(state, words);
+        load(first, head, tail, last, i, &mut words);
+        state = compress(state, &mut words);
         i += 1;
     }
     value::bytes(state)

@@ -13,12 +13,11 @@ fn word_of(a: u8, b: u8, c: u8, d: u8) -> u32
     a as u32 * 16777216 + b as u32 * 65536 + c as u32 * 256 + d as u32
 }
 
-// Sixteen words straight from a slice.
-fn words_at(bytes: &[u8], at: usize) -> [u32; 16]
-    requires { ⌜ at + 64 ≤ length (now bytes) ⌝ }
-    ensures { λ r. ⌜ r ≡ wordsAt (now (bytes .entry)) at ⌝ }
+// Sixteen words straight from a slice, into the buffer.
+fn words_at(bytes: &[u8], at: usize, words: &mut [u32; 16])
+    requires { ⌜ (at + 64 ≤ length (now bytes)) × (length (now words) ≡ 16) ⌝ }
+    ensures { λ r. ⌜ now (words .exit) ≡ wordsAt (now (bytes .entry)) at ⌝ }
 {
-    let mut words = [0u32; 16];
     let mut t: usize = 0;
     while t < 16 {
         let k = at + 4 * t;
@@ -26,7 +25,6 @@ fn words_at(bytes: &[u8], at: usize) -> [u32; 16]
         words[t] = word;
         t += 1;
     }
-    words
 }
 
 // Byte j of the padding of a message of n bytes.
@@ -91,36 +89,45 @@ fn padded_word(first: &[u8], head: &[u8], tail: &[u8], last: &[u8], k: usize) ->
 }
 
 // Sixteen words of the padded message, wherever they lie.
-fn padded_words(first: &[u8], head: &[u8], tail: &[u8], last: &[u8], at: usize) -> [u32; 16]
+fn padded_words(
+    first: &[u8],
+    head: &[u8],
+    tail: &[u8],
+    last: &[u8],
+    at: usize,
+    words: &mut [u32; 16],
+)
     requires { ⌜ length (now first) + length (now head) + length (now tail) + length (now last) < 2 ^ 61 ⌝ }
     requires { ⌜ at + 64 ≤ length (pad (now first ++ (now head ++ (now tail ++ now last)))) ⌝ }
-    ensures { λ r. ⌜ r ≡ wordsAt (pad (now (first .entry) ++ (now (head .entry) ++ (now (tail .entry) ++ now (last .entry))))) at ⌝ }
+    requires { ⌜ length (now words) ≡ 16 ⌝ }
+    ensures { λ r. ⌜ now (words .exit) ≡ wordsAt (pad (now (first .entry) ++ (now (head .entry) ++ (now (tail .entry) ++ now (last .entry))))) at ⌝ }
 {
-    let mut words = [0u32; 16];
     let mut t: usize = 0;
     while t < 16 {
         let word = padded_word(first, head, tail, last, at + 4 * t);
         words[t] = word;
         t += 1;
     }
-    words
 }
 
-// The sixteen words of block i of the padded message. A block that lies inside first or tail is read straight from there.
-pub fn load(first: &[u8], head: &[u8], tail: &[u8], last: &[u8], i: usize) -> [u32; 16]
+// The sixteen words of block i of the padded message, into the buffer. A block that lies inside first or tail is read straight from there.
+pub fn load(first: &[u8], head: &[u8], tail: &[u8], last: &[u8], i: usize, words: &mut [u32; 16])
     requires { ⌜ length (now first) + length (now head) + length (now tail) + length (now last) < 2 ^ 61 ⌝ }
     requires { ⌜ 64 * i + 64 ≤ length (pad (now first ++ (now head ++ (now tail ++ now last)))) ⌝ }
-    ensures { λ r. ⌜ r ≡ block (pad (now (first .entry) ++ (now (head .entry) ++ (now (tail .entry) ++ now (last .entry))))) i ⌝ }
+    requires { ⌜ length (now words) ≡ 16 ⌝ }
+    ensures { λ r. ⌜ now (words .exit) ≡ block (pad (now (first .entry) ++ (now (head .entry) ++ (now (tail .entry) ++ now (last .entry))))) i ⌝ }
 {
     let at = 64 * i;
     if at + 64 <= first.len() {
-        return words_at(first, at);
+        words_at(first, at, words);
+        return;
     }
     let before = first.len() + head.len();
     if before <= at {
         if at + 64 <= before + tail.len() {
-            return words_at(tail, at - before);
+            words_at(tail, at - before, words);
+            return;
         }
     }
-    padded_words(first, head, tail, last, at)
+    padded_words(first, head, tail, last, at, words);
 }

@@ -1,5 +1,5 @@
 // The hash value of FIPS 180-4: where it starts, §5.3.3, and its bytes, §6.2.2.
-use super::Working;
+use compression::Working;
 ghost use mathlib.Core.Path.{_≡_};
 ghost use Rattle.hash.specs.Sha256.{H⁰, digest};
 

@@ -1,20 +1,23 @@
 -- `hash::digest` is SHA-256. The loop's invariant: the hash value is that of the first i blocks of the padded message.
-use mathlib.Core.Path.{_≡_}
+use mathlib.Core.Path.{_≡_, refl, ap, _∙_}
 use mathlib.Core.List.{_++_}
 use Prim.Native.Nat.{_-_, _≤_}
 use native.Mathlib.Omega.{arith}
 use borrow.Author.Needs.{needs}
 use denote.Ref.{now}
+use lib.ListN.{length}
 use Rattle.hash.specs.Sha256.{pad, hashValue}
+use Rattle.hash.proofs.Padded.{length-block}
 use Rattle.hash.proofs.Hashed.{value-none, value-more, block-within, hashed}
 use Rattle.hash.proofs.digest.Statement.{statement}
 use Rattle.hash.proofs.digest.Tie as tie
 
 abbrev Inv-loop : tie.InvT-loop
-Inv-loop first head tail last n blocks state₀ i₀ state i = (i ≤ blocks) × (state ≡ hashValue (pad (first ++ (head ++ (tail ++ last)))) i)
+Inv-loop first head tail last n blocks words₀ state₀ i₀ words state i =
+    (i ≤ blocks) × ((length words ≡ 16) × (state ≡ hashValue (pad (first ++ (head ++ (tail ++ last)))) i))
 
 abbrev μ-loop : tie.MeasureT-loop
-μ-loop first head tail last n blocks state₀ i₀ state i = blocks - i
+μ-loop first head tail last n blocks words₀ state₀ i₀ words state i = blocks - i
 
 add-n : tie.Need-add-n Inv-loop μ-loop
 add-n c = search needs
@@ -35,16 +38,16 @@ initial-requires : tie.Need-initial-requires Inv-loop μ-loop
 initial-requires c κs = search needs
 
 loop-holds : tie.Need-loop-holds Inv-loop μ-loop
-loop-holds c = (omega arith, value-none _ (c .initial .result) (c .initial .ensures))
+loop-holds c = (omega arith, (refl, value-none _ (c .initial .result) (c .initial .ensures)))
 
 load-requires : tie.Need-load-requires Inv-loop μ-loop
 load-requires c κs =
-    let start = c .before .before .before .before .before .before .before in
+    let start = c .before .before .before .before .before .before .before .before in
     let a = start .args in
-    (start .pre, block-within (now (a .first)) (now (a .head)) (now (a .tail)) (now (a .last)) (c .before .loop .i) (c .loop-test .taken))
+    (start .pre, (block-within (now (a .first)) (now (a .head)) (now (a .tail)) (now (a .last)) (c .before .before .loop .i) (c .before .loop-test .taken), c .before .before .loop .inv .1 .0))
 
 compress-requires : tie.Need-compress-requires Inv-loop μ-loop
-compress-requires c κs = search needs
+compress-requires c κs = ap length (c .before .load .ensures) ∙ length-block _ _
 
 add-i : tie.Need-add-i Inv-loop μ-loop
 add-i c = search needs
@@ -54,8 +57,9 @@ loop-less c = search needs
 
 loop-again : tie.Need-loop-again Inv-loop μ-loop
 loop-again c =
-    let at = c .before .before .before .loop in
-    (omega arith, value-more _ (at .i) (at .state) (c .before .load .result) (c .compress .result) (at .inv .1) (c .before .load .ensures) (c .compress .ensures))
+    let at = c .before .before .before .before .before .loop in
+    let load = c .before .before .load in
+    (omega arith, (c .compress .ensures .1, value-more _ (at .i) (at .state) _ (c .compress .result) (at .inv .1 .1) (load .ensures) (c .compress .ensures .0)))
 
 bytes-requires : tie.Need-bytes-requires Inv-loop μ-loop
 bytes-requires c κs = search needs
@@ -64,7 +68,7 @@ returns : tie.Need-returns Inv-loop μ-loop
 returns c =
     let at = c .before .before .loop in
     let a = c .before .before .before .before .before .before .before .before .args in
-    hashed (now (a .first)) (now (a .head)) (now (a .tail)) (now (a .last)) (at .i) (at .state) (c .bytes .result) (omega arith) (at .inv .1) (c .bytes .ensures)
+    hashed (now (a .first)) (now (a .head)) (now (a .tail)) (now (a .last)) (at .i) (at .state) (c .bytes .result) (omega arith) (at .inv .1 .1) (c .bytes .ensures)
 
 pub digest-spec : {M : Type 1} → statement M
 digest-spec =

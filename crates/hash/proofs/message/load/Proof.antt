@@ -25,8 +25,8 @@ words-at-requires c κs = search needs
 
 returns : tie.Need-returns
 returns c =
-    let a = c .before .before .before .before .before .before .args in
-    c .words-at .ensures ∙ block-first (now (a .first)) (now (a .head)) (now (a .tail)) (now (a .last)) (a .i) (c .before .if1 .taken)
+    let a = c .before .before .before .before .before .before .before .args in
+    c .words-at .ensures ∙ block-first (now (a .first)) (now (a .head)) (now (a .tail)) (now (a .last)) (a .i) (c .before .before .if1 .taken)
 
 add-before : tie.Need-add-before
 add-before c = search needs
@@ -42,9 +42,9 @@ words-at-requires-2 c κs = search needs
 
 returns-2 : tie.Need-returns-2
 returns-2 c =
-    let a = c .before .before .before .before .before .before .before .before .args in
+    let a = c .before .before .before .before .before .before .before .before .before .args in
     c .words-at2 .ensures
-    ∙ block-tail (now (a .first)) (now (a .head)) (now (a .tail)) (now (a .last)) (a .i) (c .before .before .if2 .taken) (c .before .if3 .taken)
+    ∙ block-tail (now (a .first)) (now (a .head)) (now (a .tail)) (now (a .last)) (a .i) (c .before .before .before .if2 .taken) (c .before .before .if3 .taken)
 
 padded-words-requires : tie.Need-padded-words-requires
 padded-words-requires c κs = search needs

@@ -4,7 +4,7 @@ use Prim.Native.Nat.{_+_, _-_, _*_, _≤_}
 use native.Mathlib.Omega.{arith}
 use borrow.Author.Needs.{needs}
 use denote.Ref.{now}
-use lib.ListN.{take, drop}
+use lib.ListN.{length, take, drop}
 use Rattle.laws.specs.Bytes.{number}
 use Rattle.laws.proofs.Tabulate.{filledTo, filled-none, filled-turn, filled-all}
 use Rattle.laws.proofs.BigEndian.{number-four}
@@ -13,13 +13,13 @@ use Rattle.hash.proofs.message.words_at.Statement.{statement}
 use Rattle.hash.proofs.message.words_at.Tie as tie
 
 abbrev Inv-loop : tie.InvT-loop
-Inv-loop bytes at words₀ t₀ words t = (t ≤ 16) × (words ≡ filledTo t (λ j. number (take 4 (drop (at + 4 * j) bytes))) words₀)
+Inv-loop bytes at words₀ t₀ words t = (t ≤ 16) × ((length words₀ ≡ 16) × (words ≡ filledTo t (λ j. number (take 4 (drop (at + 4 * j) bytes))) words₀))
 
 abbrev μ-loop : tie.MeasureT-loop
 μ-loop bytes at words₀ t₀ words t = 16 - t
 
 loop-holds : tie.Need-loop-holds Inv-loop μ-loop
-loop-holds c = (omega arith, filled-none _ _)
+loop-holds c = (omega arith, (search needs, filled-none _ _))
 
 mul-k : tie.Need-mul-k Inv-loop μ-loop
 mul-k c = omega arith
@@ -54,8 +54,8 @@ word-of-requires c κs = search needs
 mul-words : tie.Need-mul-words Inv-loop μ-loop
 mul-words c = omega arith
 
-array-write-words : tie.Need-array-write-words Inv-loop μ-loop
-array-write-words c = omega arith
+element-write-words : tie.Need-element-write-words Inv-loop μ-loop
+element-write-words c = omega arith
 
 add-t : tie.Need-add-t Inv-loop μ-loop
 add-t c = omega arith
@@ -69,14 +69,14 @@ loop-again c =
     let a = at-loop .before .before .args in
     let at = at-loop .loop in
     let word = c .word-of .ensures ∙ sym (number-four (now (a .bytes)) (a .at + 4 * at .t) (omega arith)) in
-    (omega arith, filled-turn _ _ (at .words) (at .t) (c .word-of .result) 0 (omega arith) (at .inv .1) word)
+    (omega arith, (at .inv .1 .0, filled-turn _ _ (at .words) (at .t) (c .word-of .result) 0 (omega arith) (at .inv .1 .1) word))
 
 returns : tie.Need-returns Inv-loop μ-loop
 unfolding wordsAt
 returns c =
     let at = c .before .loop in
     let e : at .t ≡ 16 = omega arith in
-    rw e at (at .inv .1 ∙ filled-all _ _ (at .t) e)
+    rw e at (at .inv .1 .1 ∙ filled-all _ _ (at .t) (e ∙ sym (at .inv .1 .0)))
 
 pub words-at-spec : {M : Type 1} → statement M
 words-at-spec =
@@ -96,7 +96,7 @@ words-at-spec =
     shared-slice-read-word-of-4
     word-of-requires
     mul-words
-    array-write-words
+    element-write-words
     add-t
     loop-less
     loop-again

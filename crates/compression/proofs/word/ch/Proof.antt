@@ -1,0 +1,12 @@
+-- `compression::word::ch` is Ch, by computation.
+use mathlib.Core.Path.{refl}
+use Rattle.compression.specs.Compression.{Ch}
+use Rattle.compression.proofs.word.ch.Statement.{statement}
+use Rattle.compression.proofs.word.ch.Tie as tie
+
+returns : tie.Need-returns
+unfolding Ch
+returns c = refl
+
+pub ch-spec : {M : Type 1} → statement M
+ch-spec = tie.close (tie.spec returns)

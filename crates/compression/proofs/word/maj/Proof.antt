@@ -1,0 +1,12 @@
+-- `compression::word::maj` is Maj, by computation.
+use mathlib.Core.Path.{refl}
+use Rattle.compression.specs.Compression.{Maj}
+use Rattle.compression.proofs.word.maj.Statement.{statement}
+use Rattle.compression.proofs.word.maj.Tie as tie
+
+returns : tie.Need-returns
+unfolding Maj
+returns c = refl
+
+pub maj-spec : {M : Type 1} → statement M
+maj-spec = tie.close (tie.spec returns)
