@@ -5,13 +5,13 @@ ghost use Rattle.compression.specs.Compression.{Ch, Maj, Σ0, Σ1, σ0, 
 pub fn ch(x: u32, y: u32, z: u32) -> u32
     ensures { λ r. ⌜ r ≡ Ch x y z ⌝ }
 {
-    (x & y) ^ (!x & z)
+    z ^ x & (y ^ z)
 }
 
 pub fn maj(x: u32, y: u32, z: u32) -> u32
     ensures { λ r. ⌜ r ≡ Maj x y z ⌝ }
 {
-    (x & y) ^ (x & z) ^ (y & z)
+    y ^ (x ^ y) & (y ^ z)
 }
 
 pub fn big_sigma0(x: u32) -> u32

@@ -1,12 +1,11 @@
--- `compression::word::ch` is Ch, by computation.
-use mathlib.Core.Path.{refl}
-use Rattle.compression.specs.Compression.{Ch}
+-- `compression::word::ch` is Ch in its short form.
+use borrow.Author.Needs.{needs}
+use Rattle.compression.proofs.Digits.{short-ch}
 use Rattle.compression.proofs.word.ch.Statement.{statement}
 use Rattle.compression.proofs.word.ch.Tie as tie
 
 returns : tie.Need-returns
-unfolding Ch
-returns c = refl
+returns c = short-ch (c .args .x) (c .args .y) (c .args .z) (search needs) (search needs) (search needs)
 
 pub ch-spec : {M : Type 1} → statement M
 ch-spec = tie.close (tie.spec returns)

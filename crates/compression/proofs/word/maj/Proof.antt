@@ -1,12 +1,11 @@
--- `compression::word::maj` is Maj, by computation.
-use mathlib.Core.Path.{refl}
-use Rattle.compression.specs.Compression.{Maj}
+-- `compression::word::maj` is Maj in its short form.
+use borrow.Author.Needs.{needs}
+use Rattle.compression.proofs.Digits.{short-maj}
 use Rattle.compression.proofs.word.maj.Statement.{statement}
 use Rattle.compression.proofs.word.maj.Tie as tie
 
 returns : tie.Need-returns
-unfolding Maj
-returns c = refl
+returns c = short-maj (c .args .x) (c .args .y) (c .args .z) (search needs) (search needs) (search needs)
 
 pub maj-spec : {M : Type 1} → statement M
 maj-spec = tie.close (tie.spec returns)
