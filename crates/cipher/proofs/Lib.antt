@@ -1,12 +1,2 @@
-pub mod Product
-pub mod Bytes
-pub mod Boxes
-pub mod Linear
-pub mod Mixing
-pub mod State
-pub mod Words
-pub mod Rounds
-pub mod Expansion
-pub mod States
 pub mod RoundTrip
 pub mod Laws

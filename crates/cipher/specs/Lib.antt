@@ -1,3 +1,1 @@
-pub mod Field
-pub mod Box
 pub mod Aes

@@ -1,10 +1,11 @@
 // The hash, the message authentication code and the block cipher that the tag uses: the public calls, which refuse a wrong size with 7,
 // and the same work on sizes that are known to be right, for the crates above.
+pub use cipher::Blocks;
 ghost use mathlib.Core.Path.{_≡_};
 ghost use mathlib.Core.List.{_++_};
 ghost use Prim.Native.Nat.{_≤_};
 ghost use lib.ListN.{length};
-ghost use Rattle.primitives.specs.Standards.{SHA256, HMAC, AES128, InvAES128};
+ghost use Rattle.primitives.specs.Standards.{SHA256, HMAC, AES128, InvAES128, AES256};
 ghost use lib.Dec.{eqb};
 ghost use Rattle.primitives.specs.Calls.{Answers, orRefusal, hashed, authenticated, encrypted, decrypted};
 
@@ -148,4 +149,32 @@ pub fn decrypt(key: [u8; 16], block: [u8; 16]) -> [u8; 16]
     ensures { λ r. ⌜ r ≡ InvAES128 key block ⌝ }
 {
     cipher::decrypt(key, block)
+}
+
+// AES-128 of two blocks under one key.
+pub fn encrypt_pair(key: [u8; 16], first: [u8; 16], second: [u8; 16]) -> Blocks
+    ensures { λ r. ⌜ (r .first ≡ AES128 key first) × (r .second ≡ AES128 key second) ⌝ }
+{
+    cipher::encrypt_pair(key, first, second)
+}
+
+// Its inverse.
+pub fn decrypt_pair(key: [u8; 16], first: [u8; 16], second: [u8; 16]) -> Blocks
+    ensures { λ r. ⌜ (r .first ≡ InvAES128 key first) × (r .second ≡ InvAES128 key second) ⌝ }
+{
+    cipher::decrypt_pair(key, first, second)
+}
+
+// AES-256 of one block.
+pub fn encrypt256(key: [u8; 32], block: [u8; 16]) -> [u8; 16]
+    ensures { λ r. ⌜ r ≡ AES256 key block ⌝ }
+{
+    cipher::encrypt256(key, block)
+}
+
+// AES-256 of two blocks under one key.
+pub fn encrypt256_pair(key: [u8; 32], first: [u8; 16], second: [u8; 16]) -> Blocks
+    ensures { λ r. ⌜ (r .first ≡ AES256 key first) × (r .second ≡ AES256 key second) ⌝ }
+{
+    cipher::encrypt256_pair(key, first, second)
 }

@@ -17,7 +17,7 @@ fn there_and_back(key: &[u8], block: &[u8]) {
 }
 
 // The i-th sixteen of a sequence of bytes, which begins again where it ends: one sixteen alone is each of them.
-fn sixteen(bytes: &[u8], i: u8) -> [u8; 16] {
+pub fn sixteen(bytes: &[u8], i: u8) -> [u8; 16] {
     let mut out = [0u8; 16];
     let mut j = 0;
     while j < 16 {
@@ -39,9 +39,9 @@ fn pairs(name: &[u8], count: u8, keys: &[u8], blocks: &[u8]) {
     }
 }
 
-// Byte j of the block that begins with as many ones and goes on with zeros.
-fn byte_of_ones(ones: usize, j: usize) -> u8 {
-    if j < 16 {
+// Byte j, below 32, of the bytes that begin with as many ones and go on with zeros.
+pub fn byte_of_ones(ones: usize, j: usize) -> u8 {
+    if j < 32 {
         let before = 8 * j;
         if before + 8 <= ones {
             return 0xff;
@@ -55,7 +55,7 @@ fn byte_of_ones(ones: usize, j: usize) -> u8 {
 }
 
 // The blocks of 1 to 128 ones and then zeros, one after another.
-fn leading_ones() -> [u8; 2048] {
+pub fn leading_ones() -> [u8; 2048] {
     let mut blocks = [0u8; 2048];
     let mut k = 0;
     while k < 2048 {

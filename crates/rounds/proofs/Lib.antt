@@ -1,0 +1,4 @@
+pub mod State
+pub mod Mixing
+pub mod Rounds
+pub mod States

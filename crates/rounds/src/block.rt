@@ -1,0 +1,45 @@
+// The cipher and the inverse cipher of FIPS 197, §5.1 and §5.3, over Nr: one block under a key schedule.
+ghost use mathlib.Core.Path.{_≡_};
+ghost use Prim.Native.Nat.{_+_, _*_, _≤_};
+ghost use lib.ListN.{length};
+ghost use Rattle.substitution.specs.Box.{SBox, InvSBox, TableOf};
+ghost use Rattle.rounds.specs.Rounds.{Cipher, InvCipher};
+use crate::inv_steps::inv_mix_columns;
+use crate::inv_steps::inv_shift_rows;
+use crate::inv_steps::inv_sub_bytes;
+use crate::steps::add_round_key;
+use crate::steps::mix_columns;
+use crate::steps::shift_rows;
+use crate::steps::sub_bytes;
+
+// The block encrypted under the key schedule.
+pub fn cipher(table: &[u8; 256], keys: &[u8], nr: usize, block: [u8; 16]) -> [u8; 16]
+    requires { ⌜ TableOf SBox (now table) ⌝ }
+    requires { ⌜ (1 ≤ nr) × ((nr ≤ 14) × (length (now keys) ≡ 16 * (nr + 1))) ⌝ }
+    ensures { λ r. ⌜ r ≡ Cipher nr (now (keys .entry)) block ⌝ }
+{
+    let mut s = add_round_key(keys, 0, block);
+    let mut n: usize = 0;
+    while n < nr - 1 {
+        let next = add_round_key(keys, n + 1, mix_columns(shift_rows(sub_bytes(table, s))));
+        s = next;
+        n += 1;
+    }
+    add_round_key(keys, nr, shift_rows(sub_bytes(table, s)))
+}
+
+// The block decrypted under the key schedule.
+pub fn inv_cipher(table: &[u8; 256], keys: &[u8], nr: usize, block: [u8; 16]) -> [u8; 16]
+    requires { ⌜ TableOf InvSBox (now table) ⌝ }
+    requires { ⌜ (1 ≤ nr) × ((nr ≤ 14) × (length (now keys) ≡ 16 * (nr + 1))) ⌝ }
+    ensures { λ r. ⌜ r ≡ InvCipher nr (now (keys .entry)) block ⌝ }
+{
+    let mut s = add_round_key(keys, nr, block);
+    let mut n: usize = nr - 1;
+    while 0 < n {
+        let next = inv_mix_columns(add_round_key(keys, n, inv_sub_bytes(table, inv_shift_rows(s))));
+        s = next;
+        n -= 1;
+    }
+    add_round_key(keys, 0, inv_sub_bytes(table, inv_shift_rows(s)))
+}

@@ -1,0 +1,15 @@
+// The field GF(2^8) of FIPS 197 in bytes, and its two substitution boxes as tables.
+mod field;
+mod inv_sbox;
+mod lookup;
+mod sbox;
+
+pub use field::times_eleven;
+pub use field::times_fourteen;
+pub use field::times_nine;
+pub use field::times_thirteen;
+pub use field::times_three;
+pub use field::times_two;
+pub use inv_sbox::inv_sub_table;
+pub use lookup::look_up;
+pub use sbox::sub_table;
