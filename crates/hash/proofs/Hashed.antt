@@ -1,17 +1,17 @@
 -- The bytes of a hash value one by one, and the number of blocks of a padded message.
-use mathlib.Core.Path.{_≡_, ap, _∙_}
-use mathlib.Core.List.{List, [], _∷_, _++_}
-use Prim.Native.Nat.{ℕ, _+_, _-_, _*_, _/_, _%_, _^_, _≤_, _<_}
-use native.Mathlib.Nat.{div-one, div-div-eq-div-mul}
+use mathlib.Core.Path.{_≡_, refl, sym, ap, _∙_}
+use mathlib.Core.List.{List, [], _∷_, _++_, append-assoc}
+use Prim.Native.Nat.{ℕ, zero, suc, _+_, _-_, _*_, _/_, _%_, _^_, _≤_, _<_}
+use native.Mathlib.Nat.{add-zero, div-one, div-div-eq-div-mul}
 use native.Mathlib.Omega.{arith}
-use native.Mathlib.Numerals.{add-one}
 use native.Mathlib.Decide.{decLt}
-use lib.ListN.{length, getD}
+use lib.ListN.{length, getD, length-append}
 use Rattle.laws.specs.Bytes.{tabulate, bigEndian}
-use Rattle.hash.specs.Sha256.{zeros, pad, block, H⁰, hashValue, digest, SHA256}
+use Rattle.hash.specs.Sha256.{zeros, padding, pad, wordsAt, block, H⁰, hashValue, digest, SHA256}
 use Rattle.compression.specs.Compression.{compress}
 use Rattle.compression.specs.declared.Working.{Working}
-use Rattle.hash.proofs.Padded.{length-pad, length-parts}
+use Rattle.hash.specs.Blocks.{followed, valueAfter}
+use Rattle.hash.proofs.Padded.{length-pad, length-parts, length-followed, block-words, words-before, words-after}
 
 -- byte i of words of 32 bits
 unfoldable pub byteOf : List ℕ → ℕ → ℕ
@@ -39,25 +39,62 @@ length-blocks m = go (decLt (length m % 64) 56)
 pub blocks : (m : List ℕ) → length (pad m) / 64 ≡ (length m + 8) / 64 + 1
 blocks m = omega (arith, length-blocks m)
 
-pub value-none : (p : List ℕ) (s : Working) → s ≡ H⁰ → s ≡ hashValue p 0
-unfolding hashValue
-value-none p s e = e
+-- ---- blocks after blocks
 
-pub value-more : (p : List ℕ) (i : ℕ) (s : Working) (w : List ℕ) (r : Working)
-    → s ≡ hashValue p i → w ≡ block p i → r ≡ compress s w → r ≡ hashValue p (i + 1)
+-- the hash value after some blocks of p is that of a list that goes on from p
+value-prefix : (p q : List ℕ) (n : ℕ) → 64 * n ≤ length p → hashValue p n ≡ hashValue (p ++ q) n
 unfolding hashValue
-value-more p i s w r e f g = g ∙ rw (e, f, add-one)
+value-prefix p q zero h = refl
+value-prefix p q (suc n) h =
+    let same : block p n ≡ block (p ++ q) n =
+    sym (block-words p n) ∙ sym (words-before p q (64 * n) (omega arith)) ∙ block-words (p ++ q) n in
+    rw (value-prefix p q n (omega arith), same)
 
--- the parts' own sizes, as the code adds them up
-module _ (f h t l : List ℕ) where
+pub value-start : (p q : List ℕ) (s : Working) → length p % 64 ≡ 0 → s ≡ valueAfter p → s ≡ hashValue (p ++ q) (length p / 64 + 0)
+unfolding valueAfter
+value-start p q s h e = e ∙ value-prefix p q (length p / 64) (omega arith) ∙ rw add-zero
+
+pub value-more : (p q : List ℕ) (i : ℕ) (s : Working) (w : List ℕ) (r : Working) → length p % 64 ≡ 0
+    → s ≡ hashValue (p ++ q) (length p / 64 + i) → w ≡ block q i → r ≡ compress s w → r ≡ hashValue (p ++ q) (length p / 64 + (i + 1))
+unfolding hashValue
+value-more p q i s w r h e f g =
+    let k : ℕ = length p / 64 + i in
+    let one : length p / 64 + (i + 1) ≡ suc k = omega arith in
+    let place : 64 * k - length p ≡ 64 * i = omega arith in
+    let same : block q i ≡ block (p ++ q) k =
+    sym (block-words q i)
+    ∙ ap (wordsAt q) (sym place)
+    ∙ sym (words-after p q (64 * k) (omega arith))
+    ∙ block-words (p ++ q) k in
+    g ∙ rw (e, f, same, one)
+
+pub value-at-start : H⁰ ≡ valueAfter []
+unfolding valueAfter hashValue
+value-at-start = refl
+
+-- the hash value after one block
+pub one-block : (p w : List ℕ) (s r : Working) → length p ≡ 64 → w ≡ wordsAt p 0 → s ≡ H⁰ → r ≡ compress s w → r ≡ valueAfter p
+unfolding valueAfter hashValue block
+one-block p w s r n e f g = g ∙ rw (f, e, n)
+
+-- the parts' own sizes, as the code adds them up, after p
+module _ (before : ℕ) (whole : before % 64 ≡ 0) (f h t l : List ℕ) where
   pub block-within : (i : ℕ) → i < (length f + length h + length t + length l + 8) / 64 + 1
-      → 64 * i + 64 ≤ length (pad (f ++ (h ++ (t ++ l))))
-  block-within i b = omega (arith, length-blocks (f ++ (h ++ (t ++ l))), length-parts f h t l)
+      → 64 * i + 64 ≤ length (followed before (f ++ (h ++ (t ++ l))))
+  block-within i b =
+      omega (arith, length-blocks (f ++ (h ++ (t ++ l))), length-parts f h t l, length-pad (f ++ (h ++ (t ++ l))), length-followed before whole (f ++ (h ++ (t ++ l))))
 
-  pub hashed : (i : ℕ) (s : Working) (r : List ℕ) → i ≡ (length f + length h + length t + length l + 8) / 64 + 1
-      → s ≡ hashValue (pad (f ++ (h ++ (t ++ l)))) i → r ≡ digest s → r ≡ SHA256 (f ++ (h ++ (t ++ l)))
-  unfolding SHA256
-  hashed i s r b e g =
-      let m = f ++ (h ++ (t ++ l)) in
-      let k : i ≡ length (pad m) / 64 = omega (arith, blocks m, length-parts f h t l) in
-      g ∙ ap digest (e ∙ ap (hashValue (pad m)) k)
+  pub hashed : (p : List ℕ) (i : ℕ) (s : Working) (r : List ℕ) → length p ≡ before
+      → i ≡ (length f + length h + length t + length l + 8) / 64 + 1
+      → s ≡ hashValue (p ++ followed before (f ++ (h ++ (t ++ l)))) (length p / 64 + i) → r ≡ digest s
+      → r ≡ SHA256 (p ++ (f ++ (h ++ (t ++ l))))
+  unfolding SHA256 pad followed
+  hashed p i s r n b e g =
+      let m : List ℕ = f ++ (h ++ (t ++ l)) in
+      let long : length (p ++ m) ≡ before + length m = length-append p m ∙ rw n in
+      let list : p ++ (m ++ padding (before + length m)) ≡ (p ++ m) ++ padding (length (p ++ m)) =
+      rw long (sym (append-assoc p m (padding (before + length m)))) in
+      let parts : length m ≡ length f + length h + length t + length l = length-parts f h t l in
+      let count : length p / 64 + i ≡ length ((p ++ m) ++ padding (length (p ++ m))) / 64 =
+      omega (arith, blocks (p ++ m)) in
+      g ∙ ap digest (e ∙ rw list (ap (hashValue ((p ++ m) ++ padding (length (p ++ m)))) count))

@@ -1,16 +1,18 @@
--- The key block of HMAC: how loops fill it and mask it, and how the two hashes under it make HMAC.
+-- The key block of HMAC: how loops fill it and mask it, its length under a mask, and how the two hashes under it make HMAC.
 use mathlib.Core.Path.{_≡_, sym, _∙_}
 use mathlib.Core.List.{List, [], _++_, append-nil}
 use Prim.Native.Nat.{ℕ, zero, suc, _+_, _-_, _≤_, _<_}
 use native.Mathlib.Omega.{arith}
-use lib.ListN.{length, getD, set, drop, replicate}
+use native.Mathlib.Decide.{decLe}
+use lib.ListN.{length, getD, set, drop, replicate, length-append, length-replicate}
 use borrow.Author.Tests.{le-leb, lt-leb}
 use lib.Bits.{bitXor}
 use Rattle.laws.specs.Bytes.{_⊕_}
 use Rattle.laws.proofs.Tabulate.{tabulate-getD, filledTo, filled-turn, filled-all, filled-rest}
-use Rattle.laws.proofs.Masked.{masked}
+use Rattle.laws.proofs.Masked.{masked, length-xor}
 use Rattle.hash.specs.Hmac.{filled, shortened, HMAC}
 use Rattle.hash.specs.Sha256.{SHA256}
+use Rattle.hash.proofs.Laws.{length-SHA256}
 
 drop-replicate : (n m : ℕ) → drop n (replicate {A = ℕ} m 0) ≡ replicate (m - n) 0
 drop-replicate zero m = let e : m - zero ≡ m = omega arith in rw e
@@ -41,9 +43,29 @@ pub long-key : (k d r : List ℕ) → 64 < length k → d ≡ SHA256 (k ++ []) �
 unfolding shortened
 long-key k d r h e f = f ∙ rw (lt-leb (length k) 64 h, e, append-nil)
 
--- the inner and the outer hash
-pub two-hashes : (key text b i o n r : List ℕ)
-    → b ≡ filled (shortened key) → i ≡ b ⊕ replicate 64 0x36 → n ≡ SHA256 (i ++ text) → o ≡ b ⊕ replicate 64 0x5c
-    → r ≡ SHA256 (o ++ (n ++ [])) → r ≡ HMAC key text
+-- ---- the key's block under a mask is a block
+
+length-filled : (k : List ℕ) → length k ≤ 64 → length (filled k) ≡ 64
+unfolding filled
+length-filled k h = length-append k (replicate (64 - length k) 0) ∙ rw length-replicate (omega arith)
+
+length-shortened : (key : List ℕ) → length (shortened key) ≤ 64
+unfolding shortened
+length-shortened key = go (decLe (length key) 64)
+  where
+    go : Dec (length key ≤ 64) → length (shortened key) ≤ 64
+    go (yes p) = rw (le-leb (length key) 64 p) p
+    go (no q) = rw (lt-leb (length key) 64 (omega arith), length-SHA256 key) (omega arith)
+
+pub length-masked : (key : List ℕ) (x : ℕ) → length (filled (shortened key) ⊕ replicate 64 x) ≡ 64
+length-masked key x =
+    let n : length (filled (shortened key)) ≡ 64 = length-filled (shortened key) (length-shortened key) in
+    length-xor (filled (shortened key)) (replicate 64 x) (n ∙ sym (length-replicate 64 x)) ∙ n
+
+-- HMAC from the hash values that it goes on from: the inner and the outer hash
+pub two-hashes : (key head tail last n r : List ℕ)
+    → n ≡ SHA256 ((filled (shortened key) ⊕ replicate 64 0x36) ++ (head ++ (tail ++ (last ++ []))))
+    → r ≡ SHA256 ((filled (shortened key) ⊕ replicate 64 0x5c) ++ (n ++ []))
+    → r ≡ HMAC key (head ++ (tail ++ last))
 unfolding HMAC
-two-hashes key text b i o n r e f g h k = k ∙ rw (append-nil, h, g, f, e)
+two-hashes key head tail last n r g k = k ∙ rw (append-nil, g, append-nil)

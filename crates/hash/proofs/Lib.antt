@@ -1,4 +1,5 @@
+pub mod Laying
 pub mod Padded
 pub mod Hashed
-pub mod Keys
 pub mod Laws
+pub mod Keys

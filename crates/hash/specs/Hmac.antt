@@ -6,6 +6,8 @@ use lib.Dec.{leb}
 use lib.ListN.{length, replicate}
 use Rattle.laws.specs.Bytes.{_⊕_}
 use Rattle.hash.specs.Sha256.{SHA256}
+use Rattle.hash.specs.Blocks.{valueAfter}
+use Rattle.hash.specs.declared.Keyed.{Keyed}
 
 abbrev pub B : ℕ
 B = 64
@@ -26,3 +28,11 @@ opad = replicate B 0x5c
 -- H(K XOR opad, H(K XOR ipad, text))
 unfoldable pub HMAC : List ℕ → List ℕ → List ℕ
 HMAC key text = SHA256 ((filled (shortened key) ⊕ opad) ++ SHA256 ((filled (shortened key) ⊕ ipad) ++ text))
+
+-- the key made ready: the hash values after its block under each mask, which HMAC goes on from
+unfoldable pub keyedBy : List ℕ → Keyed
+keyedBy key =
+    record {
+      inner = valueAfter (filled (shortened key) ⊕ ipad);
+      outer = valueAfter (filled (shortened key) ⊕ opad);
+    }

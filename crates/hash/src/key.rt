@@ -1,9 +1,14 @@
 // The key of RFC 2104, §2: made as long as a block, and masked for the inner and the outer hash.
 use super::digest;
+use super::message::words_at;
+use super::value::initial;
+use compression::Working;
+use compression::compress;
 ghost use mathlib.Core.Path.{_≡_};
 ghost use Prim.Native.Nat.{_^_, _≤_, _<_};
 ghost use lib.ListN.{length, replicate};
 ghost use Rattle.laws.specs.Bytes.{_⊕_};
+ghost use Rattle.hash.specs.Blocks.{valueAfter};
 ghost use Rattle.hash.specs.Hmac as rfc;
 
 // Zeros appended up to the length of a block.
@@ -43,4 +48,13 @@ pub fn masked(block: [u8; 64], mask: u8) -> [u8; 64]
         i += 1;
     }
     out
+}
+
+// The hash value after one block.
+pub fn value_of(block: [u8; 64]) -> Working
+    ensures { λ r. ⌜ r ≡ valueAfter block ⌝ }
+{
+    let mut words = [0u32; 16];
+    words_at(&block, 0, &mut words);
+    compress(initial(), &mut words)
 }

@@ -1,10 +1,12 @@
-// The padded message of FIPS 180-4, §5.1 and §5.2, of a message that is handed in as four parts and never copied.
+// The padded message of FIPS 180-4, §5.1 and §5.2, of a message that is handed in as four parts. Only a block that lies in no single part is laid
+// out in 64 bytes of its own.
 ghost use mathlib.Core.Path.{_≡_};
-ghost use mathlib.Core.List.{[], _∷_, _++_};
-ghost use Prim.Native.Nat.{_+_, _*_, _^_, _≤_, _<_};
-ghost use lib.ListN.{length, getD, take, drop};
-ghost use Rattle.laws.specs.Bytes.{number};
-ghost use Rattle.hash.specs.Sha256.{padding, pad, wordsAt, block};
+ghost use mathlib.Core.List.{List, [], _∷_, _++_};
+ghost use Prim.Native.Nat.{ℕ, _+_, _*_, _%_, _^_, _≤_, _<_};
+ghost use lib.ListN.{length};
+ghost use Rattle.laws.specs.Bytes.{number, bigEndian};
+ghost use Rattle.hash.specs.Sha256.{wordsAt, block};
+ghost use Rattle.hash.specs.Blocks.{blockAt, followed};
 
 // The word of four bytes.
 fn word_of(a: u8, b: u8, c: u8, d: u8) -> u32
@@ -14,7 +16,7 @@ fn word_of(a: u8, b: u8, c: u8, d: u8) -> u32
 }
 
 // Sixteen words straight from a slice, into the buffer.
-fn words_at(bytes: &[u8], at: usize, words: &mut [u32; 16])
+pub fn words_at(bytes: &[u8], at: usize, words: &mut [u32; 16])
     requires { ⌜ (at + 64 ≤ length (now bytes)) × (length (now words) ≡ 16) ⌝ }
     ensures { λ r. ⌜ now (words .exit) ≡ wordsAt (now (bytes .entry)) at ⌝ }
 {
@@ -27,107 +29,88 @@ fn words_at(bytes: &[u8], at: usize, words: &mut [u32; 16])
     }
 }
 
-// Byte j of the padding of a message of n bytes.
-fn padding_byte(n: usize, j: usize) -> u8
-    requires { ⌜ (n < 2 ^ 61) × (j < length (padding n)) ⌝ }
-    ensures { λ r. ⌜ r ≡ getD (padding n) j 0 ⌝ }
+// The bytes of a part that fall into a block. The part's first byte is byte `start` of the message, the block's is byte `at`: a block that
+// has the bytes of a message m of `start` bytes gets those of m and the part.
+fn lay(part: &[u8], start: usize, at: usize, block: &mut [u8; 64])
+    requires { ⌜ (start + length (now part) < 2 ^ 62) × (at < 2 ^ 62) ⌝ }
+    ensures { λ r. ⌜ ((m : List ℕ) → length m ≡ start → now (block .entry) ≡ blockAt m at → now (block .exit) ≡ blockAt (m ++ now (part .entry)) at) ⌝ }
 {
-    if j == 0 {
-        return 0x80;
+    let mut k: usize = 0;
+    if start < at {
+        k = at - start;
     }
-    let zeros = (119 - n % 64) % 64;
-    if j <= zeros {
-        return 0;
+    while k < part.len() && start + k < at + 64 {
+        block[start + k - at] = part[k];
+        k += 1;
     }
-    let places = 7 - (j - 1 - zeros);
-    (((8 * n) >> (8 * places)) % 256) as u8
 }
 
-// Byte i of the message.
-fn message_byte(first: &[u8], head: &[u8], tail: &[u8], last: &[u8], i: usize) -> u8
-    requires { ⌜ i < length (now first) + length (now head) + length (now tail) + length (now last) ⌝ }
-    ensures { λ r. ⌜ r ≡ getD (now (first .entry) ++ (now (head .entry) ++ (now (tail .entry) ++ now (last .entry)))) i 0 ⌝ }
+// The length in bits, as eight bytes.
+fn length_bytes(bits: usize) -> [u8; 8]
+    ensures { λ r. ⌜ r ≡ bigEndian 8 bits ⌝ }
 {
-    if i < first.len() {
-        return first[i];
+    let mut out = [0u8; 8];
+    let mut i: usize = 0;
+    while i < 8 {
+        out[i] = ((bits >> (8 * (7 - i))) % 256) as u8;
+        i += 1;
     }
-    let j = i - first.len();
-    if j < head.len() {
-        return head[j];
-    }
-    let k = j - head.len();
-    if k < tail.len() {
-        return tail[k];
-    }
-    last[k - tail.len()]
+    out
 }
 
-// Byte i of the padded message.
-fn padded_byte(first: &[u8], head: &[u8], tail: &[u8], last: &[u8], i: usize) -> u8
-    requires { ⌜ length (now first) + length (now head) + length (now tail) + length (now last) < 2 ^ 61 ⌝ }
-    requires { ⌜ i < length (pad (now first ++ (now head ++ (now tail ++ now last)))) ⌝ }
-    ensures { λ r. ⌜ r ≡ getD (pad (now (first .entry) ++ (now (head .entry) ++ (now (tail .entry) ++ now (last .entry))))) i 0 ⌝ }
-{
-    let n = first.len() + head.len() + tail.len() + last.len();
-    if i < n {
-        return message_byte(first, head, tail, last, i);
-    }
-    padding_byte(n, i - n)
-}
-
-// The word of the four bytes from byte k on of the padded message.
-fn padded_word(first: &[u8], head: &[u8], tail: &[u8], last: &[u8], k: usize) -> u32
-    requires { ⌜ length (now first) + length (now head) + length (now tail) + length (now last) < 2 ^ 61 ⌝ }
-    requires { ⌜ k + 4 ≤ length (pad (now first ++ (now head ++ (now tail ++ now last)))) ⌝ }
-    ensures { λ r. ⌜ r ≡ number (take 4 (drop k (pad (now (first .entry) ++ (now (head .entry) ++ (now (tail .entry) ++ now (last .entry))))))) ⌝ }
-{
-    let a = padded_byte(first, head, tail, last, k);
-    let b = padded_byte(first, head, tail, last, k + 1);
-    let c = padded_byte(first, head, tail, last, k + 2);
-    let d = padded_byte(first, head, tail, last, k + 3);
-    word_of(a, b, c, d)
-}
-
-// Sixteen words of the padded message, wherever they lie.
-fn padded_words(
+// The 64 bytes from byte `at` on of the message and its padding, where `before` bytes, in whole blocks, went before it.
+fn laid_out(
     first: &[u8],
     head: &[u8],
     tail: &[u8],
     last: &[u8],
+    before: usize,
     at: usize,
-    words: &mut [u32; 16],
-)
-    requires { ⌜ length (now first) + length (now head) + length (now tail) + length (now last) < 2 ^ 61 ⌝ }
-    requires { ⌜ at + 64 ≤ length (pad (now first ++ (now head ++ (now tail ++ now last)))) ⌝ }
-    requires { ⌜ length (now words) ≡ 16 ⌝ }
-    ensures { λ r. ⌜ now (words .exit) ≡ wordsAt (pad (now (first .entry) ++ (now (head .entry) ++ (now (tail .entry) ++ now (last .entry))))) at ⌝ }
+) -> [u8; 64]
+    requires { ⌜ (before + (length (now first) + length (now head) + length (now tail) + length (now last)) < 2 ^ 61) × ((before % 64 ≡ 0) × (at < 2 ^ 62)) ⌝ }
+    ensures { λ r. ⌜ r ≡ blockAt (followed before (now (first .entry) ++ (now (head .entry) ++ (now (tail .entry) ++ now (last .entry))))) at ⌝ }
 {
-    let mut t: usize = 0;
-    while t < 16 {
-        let word = padded_word(first, head, tail, last, at + 4 * t);
-        words[t] = word;
-        t += 1;
-    }
+    let n = first.len() + head.len() + tail.len() + last.len();
+    let zeros = (119 - n % 64) % 64;
+    let length = length_bytes(8 * (before + n));
+    let mut block = [0u8; 64];
+    lay(first, 0, at, &mut block);
+    lay(head, first.len(), at, &mut block);
+    lay(tail, first.len() + head.len(), at, &mut block);
+    lay(last, first.len() + head.len() + tail.len(), at, &mut block);
+    lay(b"\x80", n, at, &mut block);
+    lay(&length, n + 1 + zeros, at, &mut block);
+    block
 }
 
-// The sixteen words of block i of the padded message, into the buffer. A block that lies inside first or tail is read straight from there.
-pub fn load(first: &[u8], head: &[u8], tail: &[u8], last: &[u8], i: usize, words: &mut [u32; 16])
-    requires { ⌜ length (now first) + length (now head) + length (now tail) + length (now last) < 2 ^ 61 ⌝ }
-    requires { ⌜ 64 * i + 64 ≤ length (pad (now first ++ (now head ++ (now tail ++ now last)))) ⌝ }
+// The sixteen words of block i of the message and its padding, into the buffer. A block that lies inside first or tail is read straight from
+// there.
+pub fn load(
+    first: &[u8],
+    head: &[u8],
+    tail: &[u8],
+    last: &[u8],
+    before: usize,
+    i: usize,
+    words: &mut [u32; 16],
+)
+    requires { ⌜ (before + (length (now first) + length (now head) + length (now tail) + length (now last)) < 2 ^ 61) × (before % 64 ≡ 0) ⌝ }
+    requires { ⌜ 64 * i + 64 ≤ length (followed before (now first ++ (now head ++ (now tail ++ now last)))) ⌝ }
     requires { ⌜ length (now words) ≡ 16 ⌝ }
-    ensures { λ r. ⌜ now (words .exit) ≡ block (pad (now (first .entry) ++ (now (head .entry) ++ (now (tail .entry) ++ now (last .entry))))) i ⌝ }
+    ensures { λ r. ⌜ now (words .exit) ≡ block (followed before (now (first .entry) ++ (now (head .entry) ++ (now (tail .entry) ++ now (last .entry))))) i ⌝ }
 {
     let at = 64 * i;
     if at + 64 <= first.len() {
         words_at(first, at, words);
         return;
     }
-    let before = first.len() + head.len();
-    if before <= at {
-        if at + 64 <= before + tail.len() {
-            words_at(tail, at - before, words);
+    let start = first.len() + head.len();
+    if start <= at {
+        if at + 64 <= start + tail.len() {
+            words_at(tail, at - start, words);
             return;
         }
     }
-    padded_words(first, head, tail, last, at, words);
+    let bytes = laid_out(first, head, tail, last, before, at);
+    words_at(&bytes, 0, words);
 }

@@ -1,9 +1,10 @@
--- `hash::message::load` gives a block, from the part that it lies in or byte by byte.
+-- `hash::message::load` gives a block, from the part that it lies in or laid out.
 use mathlib.Core.Path.{_∙_}
 use Prim.Native.Nat.{_+_, _*_, _^_, _<_}
 use native.Mathlib.Omega.{arith}
 use denote.Ref.{now}
-use Rattle.hash.proofs.Padded.{pad-fits, block-words, block-first, block-tail}
+use Rattle.hash.proofs.Laying.{block-words-of}
+use Rattle.hash.proofs.Padded.{followed-fits, block-words, block-first, block-tail}
 use borrow.Author.Needs.{needs}
 use Rattle.hash.proofs.message.load.Statement.{statement}
 use Rattle.hash.proofs.message.load.Tie as tie
@@ -12,7 +13,7 @@ use Rattle.hash.proofs.message.load.Tie as tie
 fits : (start : tie.Start) → 64 * start .args .i + 64 < 2 ^ 62
 fits start =
     let a = start .args in
-    omega (arith, pad-fits (now (a .first)) (now (a .head)) (now (a .tail)) (now (a .last)) (start .pre .0))
+    omega (arith, followed-fits (a .before) (now (a .first)) (now (a .head)) (now (a .tail)) (now (a .last)) (start .pre .0 .1) (omega arith))
 
 mul-at : tie.Need-mul-at
 mul-at c = omega (arith, fits (c .before .before .before .before))
@@ -26,16 +27,16 @@ words-at-requires c κs = search needs
 returns : tie.Need-returns
 returns c =
     let a = c .before .before .before .before .before .before .before .args in
-    c .words-at .ensures ∙ block-first (now (a .first)) (now (a .head)) (now (a .tail)) (now (a .last)) (a .i) (c .before .before .if1 .taken)
+    c .words-at .ensures ∙ block-first (a .before) (now (a .first)) (now (a .head)) (now (a .tail)) (now (a .last)) (a .i) (c .before .before .if1 .taken)
 
-add-before : tie.Need-add-before
-add-before c = search needs
+add-start : tie.Need-add-start
+add-start c = search needs
 
 add-if3 : tie.Need-add-if3
 add-if3 c = omega (arith, fits (c .before .before .before .before .before .before))
 
 add-if3-2 : tie.Need-add-if3-2
-add-if3-2 c = omega (arith, c .before .before .before .before .before .before .pre .0)
+add-if3-2 c = search needs
 
 words-at-requires-2 : tie.Need-words-at-requires-2
 words-at-requires-2 c κs = search needs
@@ -44,13 +45,23 @@ returns-2 : tie.Need-returns-2
 returns-2 c =
     let a = c .before .before .before .before .before .before .before .before .before .args in
     c .words-at2 .ensures
-    ∙ block-tail (now (a .first)) (now (a .head)) (now (a .tail)) (now (a .last)) (a .i) (c .before .before .before .if2 .taken) (c .before .before .if3 .taken)
+    ∙ block-tail (a .before) (now (a .first)) (now (a .head)) (now (a .tail)) (now (a .last)) (a .i) (c .before .before .before .if2 .taken) (c .before .before .if3 .taken)
 
-padded-words-requires : tie.Need-padded-words-requires
-padded-words-requires c κs = search needs
+laid-out-requires : tie.Need-laid-out-requires
+laid-out-requires c κs =
+    let start = c .before .before .before .before .before .before in
+    (start .pre .0 .0, (start .pre .0 .1, omega (arith, fits start)))
+
+slice-aggregate-words-at : tie.Need-slice-aggregate-words-at
+slice-aggregate-words-at c = search needs
+
+words-at-requires-3 : tie.Need-words-at-requires-3
+words-at-requires-3 c κs = search needs
 
 returns-3 : tie.Need-returns-3
-returns-3 c = c .padded-words .ensures ∙ block-words _ _
+returns-3 c =
+    let start = c .before .before .before .before .before .before .before .before .before .before in
+    c .words-at3 .ensures ∙ rw (c .before .before .before .laid-out .ensures) (block-words-of _ (64 * start .args .i) (start .pre .1 .0)) ∙ block-words _ (start .args .i)
 
 pub load-spec : {M : Type 1} → statement M
 load-spec =
@@ -60,10 +71,12 @@ load-spec =
     add-if1
     words-at-requires
     returns
-    add-before
+    add-start
     add-if3
     add-if3-2
     words-at-requires-2
     returns-2
-    padded-words-requires
+    laid-out-requires
+    slice-aggregate-words-at
+    words-at-requires-3
     returns-3)
