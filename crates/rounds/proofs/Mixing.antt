@@ -10,21 +10,11 @@ use lib.Dec.{T, lit<}
 use lib.ListN.{length, getD}
 use Rattle.laws.proofs.Table.{sameBelow, below}
 use Rattle.laws.proofs.Tabulate.{getD-tabulate, tabulate-ext, tabulate-getD}
-use Rattle.laws.proofs.Xor.{xor-exchange, Additive, additive-agree}
+use Rattle.laws.proofs.Xor.{Additive, additive-agree}
 use Rattle.substitution.specs.Field.{xtime, xtimes, bit, productBelow, _•_}
+use Rattle.columns.specs.Columns.{mixedByte}
+use Rattle.columns.proofs.Columns.{mixedByte-xor}
 use Rattle.rounds.specs.Rounds.{at, stateOf, mixed, MixColumns, InvMixColumns}
-use Rattle.substitution.proofs.Linear.{product-additive}
-use Rattle.rounds.proofs.State.{mixedByte}
-
-mixedByte-xor : (a₀ a₁ a₂ a₃ x₀ x₁ x₂ x₃ y₀ y₁ y₂ y₃ : ℕ)
-    → mixedByte a₀ a₁ a₂ a₃ (bitXor x₀ y₀) (bitXor x₁ y₁) (bitXor x₂ y₂) (bitXor x₃ y₃)
-    ≡ bitXor (mixedByte a₀ a₁ a₂ a₃ x₀ x₁ x₂ x₃) (mixedByte a₀ a₁ a₂ a₃ y₀ y₁ y₂ y₃)
-unfolding mixedByte
-mixedByte-xor a₀ a₁ a₂ a₃ x₀ x₁ x₂ x₃ y₀ y₁ y₂ y₃ =
-    ap₂ bitXor
-    (ap₂ bitXor (product-additive a₀ x₀ y₀) (product-additive a₃ x₁ y₁) ∙ xor-exchange (a₀ • x₀) (a₀ • y₀) (a₃ • x₁) (a₃ • y₁))
-    (ap₂ bitXor (product-additive a₂ x₂ y₂) (product-additive a₁ x₃ y₃) ∙ xor-exchange (a₂ • x₂) (a₂ • y₂) (a₁ • x₃) (a₁ • y₃))
-    ∙ xor-exchange (bitXor (a₀ • x₀) (a₃ • x₁)) (bitXor (a₀ • y₀) (a₃ • y₁)) (bitXor (a₂ • x₂) (a₁ • x₃)) (bitXor (a₂ • y₂) (a₁ • y₃))
 
 at-state : (f : ℕ → ℕ → ℕ) (r c : ℕ) → r < 4 → c < 4 → at (stateOf f) r c ≡ f r c
 unfolding stateOf

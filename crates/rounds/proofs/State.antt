@@ -10,10 +10,9 @@ use lib.Seq.{getD-take, getD-drop, length-take-le}
 use Rattle.laws.specs.Bytes.{tabulate, _⊕_}
 use Rattle.laws.proofs.Tabulate.{is-tabulate}
 use Rattle.laws.proofs.Xor.{length-⊕, getD-⊕}
-use Rattle.substitution.specs.Field.{_•_}
 use Rattle.substitution.specs.Box.{TableOf}
 use Rattle.substitution.proofs.Maps.{map-agree}
-use Rattle.rounds.specs.Rounds.{stateOf, mixed, AddRoundKey}
+use Rattle.rounds.specs.Rounds.{AddRoundKey}
 
 -- a state looked up in a table of a box
 pub looked-up : (f : ℕ → ℕ) (table s : List ℕ) → TableOf f table → ((i : ℕ) → getD s i 0 < 256) → map (λ b. getD table b 0) s ≡ map f s
@@ -35,18 +34,3 @@ module _ (w : List ℕ) (round : ℕ) (s : List ℕ) (e : length s ≡ 16) (fits
       (λ i h.
       getD-⊕ s (take 16 (drop (16 * round) w)) i (omega arith) (omega (arith, long-roundKey w round fits))
       ∙ ap (bitXor (getD s i 0)) (getD-take 16 (drop (16 * round) w) i 0 h ∙ getD-drop (16 * round) w i 0))
-
--- one byte of a mixed column, from the byte in its own row and those in the next three
-unfoldable pub mixedByte : ℕ → ℕ → ℕ → ℕ → ℕ → ℕ → ℕ → ℕ → ℕ
-mixedByte a₀ a₁ a₂ a₃ x₀ x₁ x₂ x₃ = bitXor (bitXor (a₀ • x₀) (a₃ • x₁)) (bitXor (a₂ • x₂) (a₁ • x₃))
-
-module _ (a₀ a₁ a₂ a₃ : ℕ) (s : List ℕ) where
-  -- place i of the mixed state, by the places that the code reads
-  abbrev pub mixedPlace : ℕ → ℕ
-  mixedPlace i =
-      mixedByte a₀ a₁ a₂ a₃ (getD s i 0) (getD s (i - i % 4 + (i % 4 + 1) % 4) 0) (getD s (i - i % 4 + (i % 4 + 2) % 4) 0)
-      (getD s (i - i % 4 + (i % 4 + 3) % 4) 0)
-
-  pub mixed-tabulate : tabulate 16 mixedPlace ≡ mixed a₀ a₁ a₂ a₃ s
-  unfolding tabulate mixed stateOf mixedByte
-  mixed-tabulate = refl

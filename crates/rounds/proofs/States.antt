@@ -11,6 +11,7 @@ use Rattle.laws.proofs.Tabulate.{length-tabulate}
 use Rattle.laws.proofs.Xor.{length-⊕}
 use Rattle.substitution.specs.Field.{_•_}
 use Rattle.substitution.specs.Box.{SBox, InvSBox}
+use Rattle.columns.specs.Columns.{mixedByte}
 use Rattle.rounds.specs.Rounds.{at, stateOf, mixed, SubBytes, ShiftRows, MixColumns, AddRoundKey, InvSubBytes, InvShiftRows, InvMixColumns, rounds, invRounds, Cipher, InvCipher}
 use Rattle.rounds.proofs.State.{long-roundKey}
 use Rattle.substitution.proofs.Bytes.{Bytes, bytes-map, bytes-take, bytes-drop, bytes-⊕, bytes-tabulate, product-below, SBox-below, InvSBox-below}
@@ -36,7 +37,7 @@ unfolding InvShiftRows
 state-inv-shift s h = state-of (λ r c. at s r ((c + (4 - r)) % 4)) (λ r c. h (r + 4 * ((c + (4 - r)) % 4)))
 
 state-mixed : (a₀ a₁ a₂ a₃ : ℕ) (s : List ℕ) → a₀ < 256 → a₁ < 256 → a₂ < 256 → a₃ < 256 → State (mixed a₀ a₁ a₂ a₃ s)
-unfolding mixed
+unfolding mixed mixedByte
 state-mixed a₀ a₁ a₂ a₃ s h₀ h₁ h₂ h₃ =
     state-of _
     (λ r c.

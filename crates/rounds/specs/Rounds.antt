@@ -3,10 +3,9 @@
 use Prim.Native.Nat.{ℕ, zero, suc, _+_, _-_, _*_, _/_, _%_}
 use mathlib.Core.List.{List, map}
 use lib.ListN.{getD, take, drop}
-use lib.Bits.{bitXor}
 use Rattle.laws.specs.Bytes.{tabulate, _⊕_}
-use Rattle.substitution.specs.Field.{_•_}
 use Rattle.substitution.specs.Box.{SBox, InvSBox}
+use Rattle.columns.specs.Columns.{mixedByte}
 
 -- the state's byte in row r and column c
 abbrev pub at : List ℕ → ℕ → ℕ → ℕ
@@ -24,15 +23,10 @@ SubBytes s = map SBox s
 unfoldable pub ShiftRows : List ℕ → List ℕ
 ShiftRows s = stateOf (λ r c. at s r ((c + r) % 4))
 
--- §5.1.3, §5.3.3: each column times the polynomial a₃x³ + a₂x² + a₁x + a₀ modulo x⁴ + 1, where row r of the matrix is
--- a₀ a₃ a₂ a₁ turned r places to the right
+-- §5.1.3, §5.3.3: each column mixed with the coefficients
 unfoldable pub mixed : ℕ → ℕ → ℕ → ℕ → List ℕ → List ℕ
 mixed a₀ a₁ a₂ a₃ s =
-    stateOf
-    (λ r c.
-    bitXor
-    (bitXor (a₀ • at s r c) (a₃ • at s ((r + 1) % 4) c))
-    (bitXor (a₂ • at s ((r + 2) % 4) c) (a₁ • at s ((r + 3) % 4) c)))
+    stateOf (λ r c. mixedByte a₀ a₁ a₂ a₃ (at s r c) (at s ((r + 1) % 4) c) (at s ((r + 2) % 4) c) (at s ((r + 3) % 4) c))
 
 unfoldable pub MixColumns : List ℕ → List ℕ
 MixColumns = mixed 0x02 0x01 0x01 0x03

@@ -2,11 +2,8 @@
 ghost use mathlib.Core.Path.{_≡_};
 ghost use Rattle.rounds.specs.Rounds.{InvSubBytes, InvShiftRows, InvMixColumns};
 ghost use Rattle.substitution.specs.Box.{InvSBox, TableOf};
+use columns::unmixed_column;
 use substitution::look_up;
-use substitution::times_eleven;
-use substitution::times_fourteen;
-use substitution::times_nine;
-use substitution::times_thirteen;
 
 // The inverse box is lent, as a table.
 pub fn inv_sub_bytes(table: &[u8; 256], s: [u8; 16]) -> [u8; 16]
@@ -42,16 +39,26 @@ pub fn inv_shift_rows(s: [u8; 16]) -> [u8; 16]
 pub fn inv_mix_columns(s: [u8; 16]) -> [u8; 16]
     ensures { λ r. ⌜ r ≡ InvMixColumns s ⌝ }
 {
-    let mut out = [0u8; 16];
-    let mut i: usize = 0;
-    while i < 16 {
-        let r = i % 4;
-        let top = i - r;
-        let b = s[top + (r + 1) % 4];
-        let c = s[top + (r + 2) % 4];
-        let d = s[top + (r + 3) % 4];
-        out[i] = times_fourteen(s[i]) ^ times_eleven(b) ^ (times_thirteen(c) ^ times_nine(d));
-        i += 1;
-    }
-    out
+    let column0 = unmixed_column(s[0], s[1], s[2], s[3]);
+    let column1 = unmixed_column(s[4], s[5], s[6], s[7]);
+    let column2 = unmixed_column(s[8], s[9], s[10], s[11]);
+    let column3 = unmixed_column(s[12], s[13], s[14], s[15]);
+    [
+        column0[0],
+        column0[1],
+        column0[2],
+        column0[3],
+        column1[0],
+        column1[1],
+        column1[2],
+        column1[3],
+        column2[0],
+        column2[1],
+        column2[2],
+        column2[3],
+        column3[0],
+        column3[1],
+        column3[2],
+        column3[3],
+    ]
 }

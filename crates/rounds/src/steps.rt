@@ -4,9 +4,8 @@ ghost use Prim.Native.Nat.{_+_, _*_, _≤_};
 ghost use lib.ListN.{length};
 ghost use Rattle.rounds.specs.Rounds.{SubBytes, ShiftRows, MixColumns, AddRoundKey};
 ghost use Rattle.substitution.specs.Box.{SBox, TableOf};
+use columns::mixed_column;
 use substitution::look_up;
-use substitution::times_three;
-use substitution::times_two;
 
 // The box is lent, as a table.
 pub fn sub_bytes(table: &[u8; 256], s: [u8; 16]) -> [u8; 16]
@@ -42,18 +41,28 @@ pub fn shift_rows(s: [u8; 16]) -> [u8; 16]
 pub fn mix_columns(s: [u8; 16]) -> [u8; 16]
     ensures { λ r. ⌜ r ≡ MixColumns s ⌝ }
 {
-    let mut out = [0u8; 16];
-    let mut i: usize = 0;
-    while i < 16 {
-        let r = i % 4;
-        let top = i - r;
-        let b = s[top + (r + 1) % 4];
-        let c = s[top + (r + 2) % 4];
-        let d = s[top + (r + 3) % 4];
-        out[i] = times_two(s[i]) ^ times_three(b) ^ (c ^ d);
-        i += 1;
-    }
-    out
+    let column0 = mixed_column(s[0], s[1], s[2], s[3]);
+    let column1 = mixed_column(s[4], s[5], s[6], s[7]);
+    let column2 = mixed_column(s[8], s[9], s[10], s[11]);
+    let column3 = mixed_column(s[12], s[13], s[14], s[15]);
+    [
+        column0[0],
+        column0[1],
+        column0[2],
+        column0[3],
+        column1[0],
+        column1[1],
+        column1[2],
+        column1[3],
+        column2[0],
+        column2[1],
+        column2[2],
+        column2[3],
+        column3[0],
+        column3[1],
+        column3[2],
+        column3[3],
+    ]
 }
 
 pub fn add_round_key(keys: &[u8], round: usize, s: [u8; 16]) -> [u8; 16]

@@ -1,5 +1,5 @@
--- A byte's product with a coefficient respects XOR, so that what is shown of products at the powers of 2 holds at every byte:
--- the coefficients of MixColumns and InvMixColumns by way of 2, and that mixing with the one undoes mixing with the other.
+-- A byte's product with a coefficient respects XOR, so that what is shown of products at the powers of 2 holds at every byte. And the product
+-- with 2, in the arithmetic of bytes and as xtime.
 --
 use mathlib.Core.Path.{_≡_, refl, sym, ap, ap₂, _∙_}
 use mathlib.Core.List.{List, [], _∷_}
@@ -12,7 +12,7 @@ use mathlib.Core.Bool.{cond}
 use borrow.Author.Tests.{lt-ltb, le-ltb}
 use lib.ListN.{getD}
 use Rattle.laws.proofs.Table.{sameBelow, below}
-use Rattle.laws.proofs.Xor.{xor-exchange, Additive, additive-agree}
+use Rattle.laws.proofs.Xor.{xor-exchange, Additive}
 use Rattle.substitution.specs.Field.{xtime, xtimes, bit, productBelow, _•_}
 
 xor-times : (p q t : ℕ) → p < 2 → q < 2 → bitXor p q * t ≡ bitXor (p * t) (q * t)
@@ -42,68 +42,6 @@ product-xor (suc i) a x y =
 pub product-additive : (a : ℕ) → Additive (λ x. a • x)
 unfolding _•_
 product-additive a x y = product-xor 8 a x y
-
--- two maps that respect XOR and agree at the powers of 2 agree at every byte
-pub bytes-agree : (f g : ℕ → ℕ) → Additive f → Additive g → T (sameBelow (λ i. f (2 ^ i) ∷ []) (λ i. g (2 ^ i) ∷ []) 8)
-    → (x : ℕ) → x < 256 → f x ≡ g x
-bytes-agree f g F G t x h =
-    additive-agree f g F G 8
-    (λ i p. ap (λ (l : List ℕ). getD l 0 0) (below (λ j. f (2 ^ j) ∷ []) (λ j. g (2 ^ j) ∷ []) 8 t i p)) x h
-
-pub one-product : (x : ℕ) → x < 256 → 1 • x ≡ x
-unfolding _•_ productBelow bit xtimes xtime
-one-product = bytes-agree (λ x. 1 • x) (λ x. x) (product-additive 1) (λ x y. refl) tt
-
--- ---- the coefficients, by way of 2
-
-module _ (f g : ℕ → ℕ) (F : Additive f) (G : Additive g) where
-  additive-sum : Additive (λ x. bitXor (f x) (g x))
-  additive-sum x y = ap₂ bitXor (F x y) (G x y) ∙ xor-exchange (f x) (f y) (g x) (g y)
-
-  additive-after : Additive (λ x. f (g x))
-  additive-after x y = ap f (G x y) ∙ F (g x) (g y)
-
--- twice f, and the same with x added
-twice : (f : ℕ → ℕ) → Additive f → Additive (λ x. 2 • f x)
-twice f F = additive-after (λ x. 2 • x) f (product-additive 2) F
-
-plus : (f : ℕ → ℕ) → Additive f → Additive (λ x. bitXor (f x) x)
-plus f F = additive-sum f (λ x. x) F (λ x y. refl)
-
--- 2 • x, and 2 • (2 • x)
-double : Additive (λ x. 2 • x)
-double = product-additive 2
-
-pub three : (x : ℕ) → x < 256 → 3 • x ≡ bitXor (2 • x) x
-unfolding _•_ productBelow bit xtimes xtime
-three = bytes-agree (λ x. 3 • x) (λ x. bitXor (2 • x) x) (product-additive 3) (plus (λ x. 2 • x) double) tt
-
-pub nine : (x : ℕ) → x < 256 → 9 • x ≡ bitXor (2 • (2 • (2 • x))) x
-unfolding _•_ productBelow bit xtimes xtime
-nine =
-    bytes-agree (λ x. 9 • x) (λ x. bitXor (2 • (2 • (2 • x))) x) (product-additive 9)
-    (plus (λ x. 2 • (2 • (2 • x))) (twice (λ x. 2 • (2 • x)) (twice (λ x. 2 • x) double))) tt
-
-pub eleven : (x : ℕ) → x < 256 → 11 • x ≡ bitXor (2 • bitXor (2 • (2 • x)) x) x
-unfolding _•_ productBelow bit xtimes xtime
-eleven =
-    bytes-agree (λ x. 11 • x) (λ x. bitXor (2 • bitXor (2 • (2 • x)) x) x) (product-additive 11)
-    (plus (λ x. 2 • bitXor (2 • (2 • x)) x)
-    (twice (λ x. bitXor (2 • (2 • x)) x) (plus (λ x. 2 • (2 • x)) (twice (λ x. 2 • x) double)))) tt
-
-pub thirteen : (x : ℕ) → x < 256 → 13 • x ≡ bitXor (2 • (2 • bitXor (2 • x) x)) x
-unfolding _•_ productBelow bit xtimes xtime
-thirteen =
-    bytes-agree (λ x. 13 • x) (λ x. bitXor (2 • (2 • bitXor (2 • x) x)) x) (product-additive 13)
-    (plus (λ x. 2 • (2 • bitXor (2 • x) x))
-    (twice (λ x. 2 • bitXor (2 • x) x) (twice (λ x. bitXor (2 • x) x) (plus (λ x. 2 • x) double)))) tt
-
-pub fourteen : (x : ℕ) → x < 256 → 14 • x ≡ 2 • bitXor (2 • bitXor (2 • x) x) x
-unfolding _•_ productBelow bit xtimes xtime
-fourteen =
-    bytes-agree (λ x. 14 • x) (λ x. 2 • bitXor (2 • bitXor (2 • x) x) x) (product-additive 14)
-    (twice (λ x. bitXor (2 • bitXor (2 • x) x) x)
-    (plus (λ x. 2 • bitXor (2 • x) x) (twice (λ x. bitXor (2 • x) x) (plus (λ x. 2 • x) double)))) tt
 
 -- 2 • x in the arithmetic of bytes
 abbrev shifted : ℕ → ℕ

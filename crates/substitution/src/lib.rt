@@ -4,11 +4,6 @@ mod inv_sbox;
 mod lookup;
 mod sbox;
 
-pub use field::times_eleven;
-pub use field::times_fourteen;
-pub use field::times_nine;
-pub use field::times_thirteen;
-pub use field::times_three;
 pub use field::times_two;
 pub use inv_sbox::inv_sub_table;
 pub use lookup::look_up;

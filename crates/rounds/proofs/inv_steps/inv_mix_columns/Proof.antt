@@ -1,122 +1,161 @@
--- `rounds::inv_steps::inv_mix_columns` meets its contract: the loop fills the next state from the front.
-use mathlib.Core.Path.{_≡_, ap₂, _∙_}
-use Prim.Native.Nat.{_≤_, _<_, _-_}
-use native.Mathlib.Omega.{arith}
+-- `rounds::inv_steps::inv_mix_columns` mixes the four columns.
+use Rattle.laws.specs.Bytes.{tabulate}
+use Rattle.rounds.specs.Rounds.{stateOf, mixed, InvMixColumns}
 use borrow.Author.Needs.{needs}
-use lib.ListN.{replicate}
-use lib.Bits.{bitXor}
-use Rattle.laws.proofs.Tabulate.{filledTo, filled-none, filled-turn, filled-all}
-use Rattle.rounds.specs.Rounds.{InvMixColumns}
-use Rattle.rounds.proofs.State.{mixedByte, mixedPlace, mixed-tabulate}
 use Rattle.rounds.proofs.inv_steps.inv_mix_columns.Statement.{statement}
 use Rattle.rounds.proofs.inv_steps.inv_mix_columns.Tie as tie
 
-abbrev Inv-loop : tie.InvT-loop
-Inv-loop s out₀ i₀ out i = (i ≤ 16) × (out ≡ filledTo i (mixedPlace 0x0e 0x09 0x0d 0x0b s) (replicate 16 0))
+array-read-unmixed-column : tie.Need-array-read-unmixed-column
+array-read-unmixed-column c = search needs
 
-abbrev μ-loop : tie.MeasureT-loop
-μ-loop s out₀ i₀ out i = 16 - i
+array-read-unmixed-column-2 : tie.Need-array-read-unmixed-column-2
+array-read-unmixed-column-2 c = search needs
 
-loop-holds : tie.Need-loop-holds Inv-loop μ-loop
-loop-holds c = (search needs, filled-none (mixedPlace 0x0e 0x09 0x0d 0x0b (c .args .t1)) (replicate 16 0))
+array-read-unmixed-column-3 : tie.Need-array-read-unmixed-column-3
+array-read-unmixed-column-3 c = search needs
 
-sub-top : tie.Need-sub-top Inv-loop μ-loop
-sub-top c = omega arith
+array-read-unmixed-column-4 : tie.Need-array-read-unmixed-column-4
+array-read-unmixed-column-4 c = search needs
 
-add-b : tie.Need-add-b Inv-loop μ-loop
-add-b c = omega arith
+unmixed-column-requires : tie.Need-unmixed-column-requires
+unmixed-column-requires c κs = search needs
 
-add-b-2 : tie.Need-add-b-2 Inv-loop μ-loop
-add-b-2 c = omega arith
+array-read-unmixed-column-5 : tie.Need-array-read-unmixed-column-5
+array-read-unmixed-column-5 c = search needs
 
-array-read-b : tie.Need-array-read-b Inv-loop μ-loop
-array-read-b c = search needs
+array-read-unmixed-column-6 : tie.Need-array-read-unmixed-column-6
+array-read-unmixed-column-6 c = search needs
 
-add-c : tie.Need-add-c Inv-loop μ-loop
-add-c c = omega arith
+array-read-unmixed-column-7 : tie.Need-array-read-unmixed-column-7
+array-read-unmixed-column-7 c = search needs
 
-add-c-2 : tie.Need-add-c-2 Inv-loop μ-loop
-add-c-2 c = omega arith
+array-read-unmixed-column-8 : tie.Need-array-read-unmixed-column-8
+array-read-unmixed-column-8 c = search needs
 
-array-read-c : tie.Need-array-read-c Inv-loop μ-loop
-array-read-c c = search needs
+unmixed-column-requires-2 : tie.Need-unmixed-column-requires-2
+unmixed-column-requires-2 c κs = search needs
 
-add-d : tie.Need-add-d Inv-loop μ-loop
-add-d c = omega arith
+array-read-unmixed-column-9 : tie.Need-array-read-unmixed-column-9
+array-read-unmixed-column-9 c = search needs
 
-add-d-2 : tie.Need-add-d-2 Inv-loop μ-loop
-add-d-2 c = omega arith
+array-read-unmixed-column-10 : tie.Need-array-read-unmixed-column-10
+array-read-unmixed-column-10 c = search needs
 
-array-read-d : tie.Need-array-read-d Inv-loop μ-loop
-array-read-d c = search needs
+array-read-unmixed-column-11 : tie.Need-array-read-unmixed-column-11
+array-read-unmixed-column-11 c = search needs
 
-array-read-times-fourteen : tie.Need-array-read-times-fourteen Inv-loop μ-loop
-array-read-times-fourteen c = search needs
+array-read-unmixed-column-12 : tie.Need-array-read-unmixed-column-12
+array-read-unmixed-column-12 c = search needs
 
-times-fourteen-requires : tie.Need-times-fourteen-requires Inv-loop μ-loop
-times-fourteen-requires c κs = search needs
+unmixed-column-requires-3 : tie.Need-unmixed-column-requires-3
+unmixed-column-requires-3 c κs = search needs
 
-times-eleven-requires : tie.Need-times-eleven-requires Inv-loop μ-loop
-times-eleven-requires c κs = search needs
+array-read-unmixed-column-13 : tie.Need-array-read-unmixed-column-13
+array-read-unmixed-column-13 c = search needs
 
-times-thirteen-requires : tie.Need-times-thirteen-requires Inv-loop μ-loop
-times-thirteen-requires c κs = search needs
+array-read-unmixed-column-14 : tie.Need-array-read-unmixed-column-14
+array-read-unmixed-column-14 c = search needs
 
-times-nine-requires : tie.Need-times-nine-requires Inv-loop μ-loop
-times-nine-requires c κs = search needs
+array-read-unmixed-column-15 : tie.Need-array-read-unmixed-column-15
+array-read-unmixed-column-15 c = search needs
 
-array-write-out : tie.Need-array-write-out Inv-loop μ-loop
-array-write-out c = search needs
+array-read-unmixed-column-16 : tie.Need-array-read-unmixed-column-16
+array-read-unmixed-column-16 c = search needs
 
-add-i : tie.Need-add-i Inv-loop μ-loop
-add-i c = omega arith
+unmixed-column-requires-4 : tie.Need-unmixed-column-requires-4
+unmixed-column-requires-4 c κs = search needs
 
-loop-less : tie.Need-loop-less Inv-loop μ-loop
-loop-less c = omega arith
+array-read-t19 : tie.Need-array-read-t19
+array-read-t19 c = search needs
 
-loop-again : tie.Need-loop-again Inv-loop μ-loop
-unfolding mixedByte
-loop-again c =
-    let h : c .before .before .before .before .before .loop .i < 16 = search needs in (
-      search needs,
-      filled-turn (mixedPlace 0x0e 0x09 0x0d 0x0b (c .before .before .before .before .before .before .args .t1)) (replicate 16 0) (c .before .before .before .before .before .loop .out) (c .before .before .before .before .before .loop .i) _ 0 h
-          (c .before .before .before .before .before .loop .inv .1)
-          (ap₂ bitXor (ap₂ bitXor (c .before .before .before .times-fourteen .ensures) (c .before .before .times-eleven .ensures))
-          (ap₂ bitXor (c .before .times-thirteen .ensures) (c .times-nine .ensures))),
-    )
+array-read-t10 : tie.Need-array-read-t10
+array-read-t10 c = search needs
 
-returns : tie.Need-returns Inv-loop μ-loop
-unfolding InvMixColumns
+array-read-t13 : tie.Need-array-read-t13
+array-read-t13 c = search needs
+
+array-read-t16 : tie.Need-array-read-t16
+array-read-t16 c = search needs
+
+array-read-t54 : tie.Need-array-read-t54
+array-read-t54 c = search needs
+
+array-read-t57 : tie.Need-array-read-t57
+array-read-t57 c = search needs
+
+array-read-t60 : tie.Need-array-read-t60
+array-read-t60 c = search needs
+
+array-read-t63 : tie.Need-array-read-t63
+array-read-t63 c = search needs
+
+array-read-t66 : tie.Need-array-read-t66
+array-read-t66 c = search needs
+
+array-read-t69 : tie.Need-array-read-t69
+array-read-t69 c = search needs
+
+array-read-t72 : tie.Need-array-read-t72
+array-read-t72 c = search needs
+
+array-read-t75 : tie.Need-array-read-t75
+array-read-t75 c = search needs
+
+array-read-t78 : tie.Need-array-read-t78
+array-read-t78 c = search needs
+
+array-read-t81 : tie.Need-array-read-t81
+array-read-t81 c = search needs
+
+array-read-t84 : tie.Need-array-read-t84
+array-read-t84 c = search needs
+
+array-read-t87 : tie.Need-array-read-t87
+array-read-t87 c = search needs
+
+returns : tie.Need-returns
+unfolding InvMixColumns mixed stateOf tabulate
 returns c =
-    let e : c .before .loop .i ≡ 16 = omega arith in
-    (rw e at (c .before .loop .inv .1))
-    ∙ filled-all (mixedPlace 0x0e 0x09 0x0d 0x0b (c .before .before .args .t1)) (replicate 16 0) 16 (search needs)
-    ∙ mixed-tabulate 0x0e 0x09 0x0d 0x0b (c .before .before .args .t1)
+    rw (c .before .before .before .unmixed-column .ensures, c .before .before .unmixed-column2 .ensures, c .before .unmixed-column3 .ensures, c .unmixed-column4 .ensures)
 
 pub inv-mix-columns-spec : {M : Type 1} → statement M
 inv-mix-columns-spec =
     tie.close
     (tie.spec
-    Inv-loop
-    μ-loop
-    loop-holds
-    sub-top
-    add-b
-    add-b-2
-    array-read-b
-    add-c
-    add-c-2
-    array-read-c
-    add-d
-    add-d-2
-    array-read-d
-    array-read-times-fourteen
-    times-fourteen-requires
-    times-eleven-requires
-    times-thirteen-requires
-    times-nine-requires
-    array-write-out
-    add-i
-    loop-less
-    loop-again
+    array-read-unmixed-column
+    array-read-unmixed-column-2
+    array-read-unmixed-column-3
+    array-read-unmixed-column-4
+    unmixed-column-requires
+    array-read-unmixed-column-5
+    array-read-unmixed-column-6
+    array-read-unmixed-column-7
+    array-read-unmixed-column-8
+    unmixed-column-requires-2
+    array-read-unmixed-column-9
+    array-read-unmixed-column-10
+    array-read-unmixed-column-11
+    array-read-unmixed-column-12
+    unmixed-column-requires-3
+    array-read-unmixed-column-13
+    array-read-unmixed-column-14
+    array-read-unmixed-column-15
+    array-read-unmixed-column-16
+    unmixed-column-requires-4
+    array-read-t19
+    array-read-t10
+    array-read-t13
+    array-read-t16
+    array-read-t54
+    array-read-t57
+    array-read-t60
+    array-read-t63
+    array-read-t66
+    array-read-t69
+    array-read-t72
+    array-read-t75
+    array-read-t78
+    array-read-t81
+    array-read-t84
+    array-read-t87
     returns)

@@ -1,121 +1,161 @@
--- `rounds::steps::mix_columns` meets its contract: the loop fills the next state from the front.
-use mathlib.Core.Path.{_≡_, sym, ap₂, _∙_}
-use Prim.Native.Nat.{ℕ, _+_, _-_, _%_, _≤_, _<_}
-use native.Mathlib.Omega.{arith}
+-- `rounds::steps::mix_columns` mixes the four columns.
+use Rattle.laws.specs.Bytes.{tabulate}
+use Rattle.rounds.specs.Rounds.{stateOf, mixed, MixColumns}
 use borrow.Author.Needs.{needs}
-use lib.ListN.{getD, replicate}
-use lib.Bits.{bitXor}
-use mir.Syntax.{w8}
-use mir.Val.{Fits}
-use Rattle.laws.proofs.Tabulate.{filledTo, filled-none, filled-turn, filled-all}
-use Rattle.substitution.specs.Field.{_•_}
-use Rattle.rounds.specs.Rounds.{MixColumns}
-use Rattle.substitution.proofs.Linear.{one-product}
-use Rattle.rounds.proofs.State.{mixedByte, mixedPlace, mixed-tabulate}
 use Rattle.rounds.proofs.steps.mix_columns.Statement.{statement}
 use Rattle.rounds.proofs.steps.mix_columns.Tie as tie
 
-abbrev Inv-loop : tie.InvT-loop
-Inv-loop s out₀ i₀ out i = (i ≤ 16) × (out ≡ filledTo i (mixedPlace 0x02 0x01 0x01 0x03 s) (replicate 16 0))
+array-read-mixed-column : tie.Need-array-read-mixed-column
+array-read-mixed-column c = search needs
 
-abbrev μ-loop : tie.MeasureT-loop
-μ-loop s out₀ i₀ out i = 16 - i
+array-read-mixed-column-2 : tie.Need-array-read-mixed-column-2
+array-read-mixed-column-2 c = search needs
 
-loop-holds : tie.Need-loop-holds Inv-loop μ-loop
-loop-holds c = (search needs, filled-none (mixedPlace 0x02 0x01 0x01 0x03 (c .args .t1)) (replicate 16 0))
+array-read-mixed-column-3 : tie.Need-array-read-mixed-column-3
+array-read-mixed-column-3 c = search needs
 
-sub-top : tie.Need-sub-top Inv-loop μ-loop
-sub-top c = omega arith
+array-read-mixed-column-4 : tie.Need-array-read-mixed-column-4
+array-read-mixed-column-4 c = search needs
 
-add-b : tie.Need-add-b Inv-loop μ-loop
-add-b c = omega arith
+mixed-column-requires : tie.Need-mixed-column-requires
+mixed-column-requires c κs = search needs
 
-add-b-2 : tie.Need-add-b-2 Inv-loop μ-loop
-add-b-2 c = omega arith
+array-read-mixed-column-5 : tie.Need-array-read-mixed-column-5
+array-read-mixed-column-5 c = search needs
 
-array-read-b : tie.Need-array-read-b Inv-loop μ-loop
-array-read-b c = search needs
+array-read-mixed-column-6 : tie.Need-array-read-mixed-column-6
+array-read-mixed-column-6 c = search needs
 
-add-c : tie.Need-add-c Inv-loop μ-loop
-add-c c = omega arith
+array-read-mixed-column-7 : tie.Need-array-read-mixed-column-7
+array-read-mixed-column-7 c = search needs
 
-add-c-2 : tie.Need-add-c-2 Inv-loop μ-loop
-add-c-2 c = omega arith
+array-read-mixed-column-8 : tie.Need-array-read-mixed-column-8
+array-read-mixed-column-8 c = search needs
 
-array-read-c : tie.Need-array-read-c Inv-loop μ-loop
-array-read-c c = search needs
+mixed-column-requires-2 : tie.Need-mixed-column-requires-2
+mixed-column-requires-2 c κs = search needs
 
-add-d : tie.Need-add-d Inv-loop μ-loop
-add-d c = omega arith
+array-read-mixed-column-9 : tie.Need-array-read-mixed-column-9
+array-read-mixed-column-9 c = search needs
 
-add-d-2 : tie.Need-add-d-2 Inv-loop μ-loop
-add-d-2 c = omega arith
+array-read-mixed-column-10 : tie.Need-array-read-mixed-column-10
+array-read-mixed-column-10 c = search needs
 
-array-read-d : tie.Need-array-read-d Inv-loop μ-loop
-array-read-d c = search needs
+array-read-mixed-column-11 : tie.Need-array-read-mixed-column-11
+array-read-mixed-column-11 c = search needs
 
-array-read-times-two : tie.Need-array-read-times-two Inv-loop μ-loop
-array-read-times-two c = search needs
+array-read-mixed-column-12 : tie.Need-array-read-mixed-column-12
+array-read-mixed-column-12 c = search needs
 
-times-two-requires : tie.Need-times-two-requires Inv-loop μ-loop
-times-two-requires c κs = search needs
+mixed-column-requires-3 : tie.Need-mixed-column-requires-3
+mixed-column-requires-3 c κs = search needs
 
-times-three-requires : tie.Need-times-three-requires Inv-loop μ-loop
-times-three-requires c κs = search needs
+array-read-mixed-column-13 : tie.Need-array-read-mixed-column-13
+array-read-mixed-column-13 c = search needs
 
-array-write-out : tie.Need-array-write-out Inv-loop μ-loop
-array-write-out c = search needs
+array-read-mixed-column-14 : tie.Need-array-read-mixed-column-14
+array-read-mixed-column-14 c = search needs
 
-add-i : tie.Need-add-i Inv-loop μ-loop
-add-i c = omega arith
+array-read-mixed-column-15 : tie.Need-array-read-mixed-column-15
+array-read-mixed-column-15 c = search needs
 
-loop-less : tie.Need-loop-less Inv-loop μ-loop
-loop-less c = omega arith
+array-read-mixed-column-16 : tie.Need-array-read-mixed-column-16
+array-read-mixed-column-16 c = search needs
 
-loop-again : tie.Need-loop-again Inv-loop μ-loop
-unfolding mixedByte
-loop-again c =
-    let h : c .before .before .before .loop .i < 16 = search needs in
-    let same : (k : ℕ) → getD (c .before .before .before .before .args .t1) k 0 ≡ 1 • getD (c .before .before .before .before .args .t1) k 0 =
-    λ k. let f : Fits w8 (getD (c .before .before .before .before .args .t1) k 0) = search needs in sym (one-product (getD (c .before .before .before .before .args .t1) k 0) (f .fits)) in (
-      search needs,
-      filled-turn (mixedPlace 0x02 0x01 0x01 0x03 (c .before .before .before .before .args .t1)) (replicate 16 0) (c .before .before .before .loop .out) (c .before .before .before .loop .i) _ 0 h
-          (c .before .before .before .loop .inv .1)
-          (ap₂ bitXor (ap₂ bitXor (c .before .times-two .ensures) (c .times-three .ensures))
-          (ap₂ bitXor (same (c .before .before .before .loop .i - c .before .before .before .loop .i % 4 + (c .before .before .before .loop .i % 4 + 2) % 4))
-          (same (c .before .before .before .loop .i - c .before .before .before .loop .i % 4 + (c .before .before .before .loop .i % 4 + 3) % 4)))),
-    )
+mixed-column-requires-4 : tie.Need-mixed-column-requires-4
+mixed-column-requires-4 c κs = search needs
 
-returns : tie.Need-returns Inv-loop μ-loop
-unfolding MixColumns
+array-read-t19 : tie.Need-array-read-t19
+array-read-t19 c = search needs
+
+array-read-t10 : tie.Need-array-read-t10
+array-read-t10 c = search needs
+
+array-read-t13 : tie.Need-array-read-t13
+array-read-t13 c = search needs
+
+array-read-t16 : tie.Need-array-read-t16
+array-read-t16 c = search needs
+
+array-read-t54 : tie.Need-array-read-t54
+array-read-t54 c = search needs
+
+array-read-t57 : tie.Need-array-read-t57
+array-read-t57 c = search needs
+
+array-read-t60 : tie.Need-array-read-t60
+array-read-t60 c = search needs
+
+array-read-t63 : tie.Need-array-read-t63
+array-read-t63 c = search needs
+
+array-read-t66 : tie.Need-array-read-t66
+array-read-t66 c = search needs
+
+array-read-t69 : tie.Need-array-read-t69
+array-read-t69 c = search needs
+
+array-read-t72 : tie.Need-array-read-t72
+array-read-t72 c = search needs
+
+array-read-t75 : tie.Need-array-read-t75
+array-read-t75 c = search needs
+
+array-read-t78 : tie.Need-array-read-t78
+array-read-t78 c = search needs
+
+array-read-t81 : tie.Need-array-read-t81
+array-read-t81 c = search needs
+
+array-read-t84 : tie.Need-array-read-t84
+array-read-t84 c = search needs
+
+array-read-t87 : tie.Need-array-read-t87
+array-read-t87 c = search needs
+
+returns : tie.Need-returns
+unfolding MixColumns mixed stateOf tabulate
 returns c =
-    let e : c .before .loop .i ≡ 16 = omega arith in
-    (rw e at (c .before .loop .inv .1))
-    ∙ filled-all (mixedPlace 0x02 0x01 0x01 0x03 (c .before .before .args .t1)) (replicate 16 0) 16 (search needs)
-    ∙ mixed-tabulate 0x02 0x01 0x01 0x03 (c .before .before .args .t1)
+    rw (c .before .before .before .mixed-column .ensures, c .before .before .mixed-column2 .ensures, c .before .mixed-column3 .ensures, c .mixed-column4 .ensures)
 
 pub mix-columns-spec : {M : Type 1} → statement M
 mix-columns-spec =
     tie.close
     (tie.spec
-    Inv-loop
-    μ-loop
-    loop-holds
-    sub-top
-    add-b
-    add-b-2
-    array-read-b
-    add-c
-    add-c-2
-    array-read-c
-    add-d
-    add-d-2
-    array-read-d
-    array-read-times-two
-    times-two-requires
-    times-three-requires
-    array-write-out
-    add-i
-    loop-less
-    loop-again
+    array-read-mixed-column
+    array-read-mixed-column-2
+    array-read-mixed-column-3
+    array-read-mixed-column-4
+    mixed-column-requires
+    array-read-mixed-column-5
+    array-read-mixed-column-6
+    array-read-mixed-column-7
+    array-read-mixed-column-8
+    mixed-column-requires-2
+    array-read-mixed-column-9
+    array-read-mixed-column-10
+    array-read-mixed-column-11
+    array-read-mixed-column-12
+    mixed-column-requires-3
+    array-read-mixed-column-13
+    array-read-mixed-column-14
+    array-read-mixed-column-15
+    array-read-mixed-column-16
+    mixed-column-requires-4
+    array-read-t19
+    array-read-t10
+    array-read-t13
+    array-read-t16
+    array-read-t54
+    array-read-t57
+    array-read-t60
+    array-read-t63
+    array-read-t66
+    array-read-t69
+    array-read-t72
+    array-read-t75
+    array-read-t78
+    array-read-t81
+    array-read-t84
+    array-read-t87
     returns)
