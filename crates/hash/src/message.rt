@@ -84,7 +84,7 @@ fn laid_out(
 }
 
 // The sixteen words of block i of the message and its padding, into the buffer. A block that lies inside first or tail is read straight from
-// there.
+// there. Any other is laid out; that is asked for in two places, so that it is compiled as a call whose bytes are off the stack when it returns.
 pub fn load(
     first: &[u8],
     head: &[u8],
@@ -110,6 +110,9 @@ pub fn load(
             words_at(tail, at - start, words);
             return;
         }
+        let bytes = laid_out(first, head, tail, last, before, at);
+        words_at(&bytes, 0, words);
+        return;
     }
     let bytes = laid_out(first, head, tail, last, before, at);
     words_at(&bytes, 0, words);

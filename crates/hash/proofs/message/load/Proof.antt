@@ -1,19 +1,30 @@
 -- `hash::message::load` gives a block, from the part that it lies in or laid out.
-use mathlib.Core.Path.{_∙_}
-use Prim.Native.Nat.{_+_, _*_, _^_, _<_}
+use mathlib.Core.Path.{_≡_, _∙_}
+use mathlib.Core.List.{List, _++_}
+use Prim.Native.Nat.{ℕ, _+_, _*_, _^_, _<_}
 use native.Mathlib.Omega.{arith}
 use denote.Ref.{now}
+use Rattle.hash.specs.Sha256.{wordsAt, block}
+use Rattle.hash.specs.Blocks.{blockAt, followed}
 use Rattle.hash.proofs.Laying.{block-words-of}
 use Rattle.hash.proofs.Padded.{followed-fits, block-words, block-first, block-tail}
 use borrow.Author.Needs.{needs}
 use Rattle.hash.proofs.message.load.Statement.{statement}
 use Rattle.hash.proofs.message.load.Tie as tie
 
+-- the message with its padding
+abbrev whole : tie.Start → List ℕ
+whole start = let a = start .args in followed (a .before) (now (a .first) ++ (now (a .head) ++ (now (a .tail) ++ now (a .last))))
+
 -- the block ends within what a usize holds
 fits : (start : tie.Start) → 64 * start .args .i + 64 < 2 ^ 62
 fits start =
     let a = start .args in
     omega (arith, followed-fits (a .before) (now (a .first)) (now (a .head)) (now (a .tail)) (now (a .last)) (start .pre .0 .1) (omega arith))
+
+-- the words of a block that was laid out
+from-bytes : (start : tie.Start) (b w : List ℕ) → b ≡ blockAt (whole start) (64 * start .args .i) → w ≡ wordsAt b 0 → w ≡ block (whole start) (start .args .i)
+from-bytes start b w e f = f ∙ rw e (block-words-of (whole start) (64 * start .args .i) (start .pre .1 .0)) ∙ block-words (whole start) (start .args .i)
 
 mul-at : tie.Need-mul-at
 mul-at c = omega (arith, fits (c .before .before .before .before))
@@ -49,7 +60,7 @@ returns-2 c =
 
 laid-out-requires : tie.Need-laid-out-requires
 laid-out-requires c κs =
-    let start = c .before .before .before .before .before .before in
+    let start = c .before .before .before .before .before .before .before in
     (start .pre .0 .0, (start .pre .0 .1, omega (arith, fits start)))
 
 slice-aggregate-words-at : tie.Need-slice-aggregate-words-at
@@ -60,8 +71,24 @@ words-at-requires-3 c κs = search needs
 
 returns-3 : tie.Need-returns-3
 returns-3 c =
+    let start = c .before .before .before .before .before .before .before .before .before .before .before in
+    from-bytes start (c .before .before .before .laid-out .result) _ (c .before .before .before .laid-out .ensures) (c .words-at3 .ensures)
+
+laid-out-requires-2 : tie.Need-laid-out-requires-2
+laid-out-requires-2 c κs =
+    let start = c .before .before .before .before .before .before in
+    (start .pre .0 .0, (start .pre .0 .1, omega (arith, fits start)))
+
+slice-aggregate-words-at-2 : tie.Need-slice-aggregate-words-at-2
+slice-aggregate-words-at-2 c = search needs
+
+words-at-requires-4 : tie.Need-words-at-requires-4
+words-at-requires-4 c κs = search needs
+
+returns-4 : tie.Need-returns-4
+returns-4 c =
     let start = c .before .before .before .before .before .before .before .before .before .before in
-    c .words-at3 .ensures ∙ rw (c .before .before .before .laid-out .ensures) (block-words-of _ (64 * start .args .i) (start .pre .1 .0)) ∙ block-words _ (start .args .i)
+    from-bytes start (c .before .before .before .laid-out2 .result) _ (c .before .before .before .laid-out2 .ensures) (c .words-at4 .ensures)
 
 pub load-spec : {M : Type 1} → statement M
 load-spec =
@@ -79,4 +106,8 @@ load-spec =
     laid-out-requires
     slice-aggregate-words-at
     words-at-requires-3
-    returns-3)
+    returns-3
+    laid-out-requires-2
+    slice-aggregate-words-at-2
+    words-at-requires-4
+    returns-4)
