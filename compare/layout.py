@@ -10,7 +10,7 @@ import sys
 
 ROOT = pathlib.Path(__file__).resolve().parent.parent
 SIZES = "crates/sizes/specs/Sizes.antt"
-PARTS = ["crates/record_parts/specs/Kinds.antt", "crates/record_parts/specs/Groups.antt", "crates/stored/specs/Record.antt"]
+PARTS = ["crates/record_fields/specs/Kinds.antt", "crates/record_parts/specs/Groups.antt", "crates/stored/specs/Record.antt"]
 KINDS = {"byte": "byteSize", "flag": "byteSize", "power": "powerSize"}
 
 

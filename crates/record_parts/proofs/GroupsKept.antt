@@ -5,10 +5,11 @@ use Rattle.sizes.specs.Sizes.{nonceSize, keysRoom, identityKeySize, identifierS
 use Rattle.unit.specs.declared.Owner.{Owner}
 use Rattle.unit.specs.declared.Sound.{Sound}
 use Rattle.unit.specs.declared.Protection.{Protection}
-use Rattle.record_parts.specs.Part.{again, whole, Lawful}
-use Rattle.record_parts.specs.Groups.{tenthsSize, secondsSize, countSize, settingsFields, clockFields, nonceFields, ownerFields, accountsFields, identityFields, soundFields, protectionFields, identifierFields}
-use Rattle.record_parts.proofs.Joining.{whole-lawful}
-use Rattle.record_parts.proofs.KindsKept.{byte-lawful, plain-lawful, number-lawful, flag-lawful, power-lawful}
+use Rattle.record_fields.specs.Part.{again, whole, Lawful}
+use Rattle.record_parts.specs.Groups.{settingsFields, clockFields, nonceFields, ownerFields, accountsFields, identityFields, soundFields, protectionFields, identifierFields}
+use Rattle.record_fields.specs.Kinds.{tenthsSize, secondsSize, countSize}
+use Rattle.record_fields.proofs.Joining.{whole-lawful}
+use Rattle.record_fields.proofs.KindsKept.{byte-lawful, plain-lawful, number-lawful, flag-lawful, power-lawful}
 
 pub settings-lawful : Lawful (whole settingsFields)
 unfolding settingsFields again

@@ -1,5 +1,1 @@
-pub mod Joining
-pub mod KindsKept
 pub mod GroupsKept
-pub mod Placing
-pub mod Power

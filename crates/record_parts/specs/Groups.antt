@@ -15,18 +15,8 @@ use Rattle.unit.specs.declared.Identity.{Identity}
 use Rattle.unit.specs.declared.Sound.{Sound}
 use Rattle.unit.specs.declared.Protection.{Protection}
 use Rattle.unit.specs.declared.Identifier.{Identifier}
-use Rattle.record_parts.specs.Part.{Fields, making, _then_of_, whole}
-use Rattle.record_parts.specs.Kinds.{byteSize, byte, plain, numberOf, flag, flagByte, powerSize, power}
-
--- bytes of a number of tenths, of seconds, and of a count or a place
-abbrev pub tenthsSize : ℕ
-tenthsSize = 2
-
-abbrev pub secondsSize : ℕ
-secondsSize = 4
-
-abbrev pub countSize : ℕ
-countSize = 8
+use Rattle.record_fields.specs.Part.{Fields, making, _then_of_, whole}
+use Rattle.record_fields.specs.Kinds.{tenthsSize, secondsSize, countSize, byteSize, byte, plain, numberOf, flag, flagByte, powerSize, power}
 
 abbrev pub settingsSize : ℕ
 settingsSize = powerSize + byteSize + byteSize

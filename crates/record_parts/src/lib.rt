@@ -1,13 +1,11 @@
-// The parts of the unit's stored record: each module writes and reads one kind of field or one group of fields, at any place of the bytes.
-// Inner calls: the bytes have room for the part from the place on.
+// The parts of the unit's stored record: each module writes and reads one group of fields, at any place of the bytes. Inner calls: the
+// bytes have room for the group from the place on.
 pub mod accounts;
 pub mod clock;
 pub mod identifier;
 pub mod identity;
-pub mod kinds;
 pub mod nonce;
 pub mod owner;
-pub mod plain;
 pub mod protection;
 pub mod settings;
 pub mod sound;

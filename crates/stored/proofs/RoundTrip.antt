@@ -1,24 +1,26 @@
 -- The record of a unit and the unit of a record: the round trip, and which bytes are no record.
 use Prim.Native.Nat.{ℕ, zero, suc, _+_}
 use mathlib.Core.Path.{_≡_, sym, ap, _∙_}
-use mathlib.Core.Logic.{_⊎_, inl, inr}
+use mathlib.Core.Logic.{_⊎_, inl, inr, ⊎-elim}
 use mathlib.Core.Bool.{Bool, true, false, cond, _&&_}
-use mathlib.Core.List.{List, [], _∷_, append-nil}
+use mathlib.Core.List.{List, [], _∷_, _++_, append-nil}
 use native.Mathlib.Omega.{arith}
 use lib.Dec.{eqb}
 use lib.ListN.{length, getD, replicate, length-append}
-use borrow.Author.Tests.{eq-eqb, ne-eqb}
+use borrow.Author.Tests.{eq-eqb, ne-eqb, eqb-true}
 use Rattle.laws.specs.Bytes.{sameBytes}
-use Rattle.laws.proofs.Flags.{and-right, fails, true-or-false}
+use Rattle.laws.proofs.Flags.{and-left, and-right, fails, true-or-false}
 use Rattle.laws.proofs.Same.{same-refl, same-equal}
 use Rattle.unit.specs.Change.{noUnit}
 use Rattle.unit.proofs.Lines.{lines}
 use Rattle.unit.specs.WellFormed.{wellFormed}
 use Rattle.unit.specs.declared.TagUnit.{TagUnit}
-use Rattle.record_parts.specs.Part.{Fitting, bytesOf, valueOf}
-use Rattle.record_parts.specs.Kinds.{byteSize}
+use Rattle.record_fields.specs.Part.{Octets, Fitting, NamesNone, bytesOf, valueOf}
+use Rattle.record_fields.specs.Kinds.{byteSize}
+use Rattle.record_fields.proofs.Joining.{fields-named}
 use Rattle.stored.specs.Record.{version, unitFields, recordSize, encoded, decoded}
-use Rattle.stored.proofs.Keeping.{unit-lawful}
+use Rattle.stored.proofs.Keeping.{unit-parts, unit-lawful}
+use Rattle.stored.proofs.Filled.{unit-filled}
 
 pub length-encoded : (u : TagUnit) → Fitting unitFields u → length (encoded u) ≡ recordSize
 unfolding encoded
@@ -67,18 +69,44 @@ module _ (b : List ℕ) {written : List ℕ} {u : TagUnit} (long : length b ≡ 
       let f : sameBytes (encoded (valueOf unitFields b byteSize)) b ≡ true = rw (is, read) at e in
       rw (eq-eqb (length b) recordSize long, f) (sym read)
 
--- bytes that are nobody's record, as where a byte names no variant
-pub no-record : (b : List ℕ) → ((u : TagUnit) → encoded u ≡ b → ⊥) → decoded b ≡ noUnit
-no-record b h = go (only-records b)
+-- bytes that are the record of no unit of the code's mean no unit
+pub no-record : (b : List ℕ) → Octets b → ((u : TagUnit) → Fitting unitFields u → encoded u ≡ b → ⊥) → decoded b ≡ noUnit
+unfolding decoded
+no-record b s h = go (true-or-false test)
   where
-    go : (encoded (decoded b) ≡ b) ⊎ (decoded b ≡ noUnit) → decoded b ≡ noUnit
-    go (inl e) = absurd (h (decoded b) e)
-    go (inr e) = e
+    u : TagUnit
+    u = valueOf unitFields b byteSize
+
+    test : Bool
+    test = eqb (length b) recordSize && sameBytes (encoded u) b
+
+    go : (test ≡ true) ⊎ (test ≡ false) → cond test u noUnit ≡ noUnit
+    go (inl e) =
+        let long : length b ≡ recordSize = eqb-true (length b) recordSize (and-left (eqb (length b) recordSize) _ e) in
+        absurd (h u (unit-filled b s long) (same-equal (encoded u) b (and-right (eqb (length b) recordSize) _ e)))
+    go (inr e) = rw e
+
+-- as those where a byte names no variant
+pub no-variant : (b : List ℕ) → Octets b → NamesNone unitFields b byteSize → decoded b ≡ noUnit
+unfolding encoded
+no-variant b s none =
+    no-record b s
+    (λ u h e.
+    let all : b ≡ (version ∷ []) ++ (bytesOf unitFields u ++ []) = sym e ∙ ap (λ (l : List ℕ). version ∷ l) (sym (append-nil (bytesOf unitFields u))) in
+    fields-named unitFields unit-parts u h (version ∷ []) [] (rw all at none))
+
+-- a unit has one record: bytes that name no variant where a unit's record names one do not mean that unit too
+pub one-record : (b c : List ℕ) → decoded b ≡ decoded c → (b ≡ c) ⊎ (decoded b ≡ noUnit)
+one-record b c e =
+    ⊎-elim
+    (λ own. ⊎-elim (λ other. inl (sym own ∙ ap encoded e ∙ other)) (λ none. inr (e ∙ none)) (only-records c))
+    inr
+    (only-records b)
 
 -- another version byte, and so memory that is zeroed or erased, however long
 pub other-version : (b : List ℕ) → (getD b 0 0 ≡ version → ⊥) → decoded b ≡ noUnit
 unfolding encoded
-other-version b h = no-record b (λ u e. h (ap (λ (l : List ℕ). getD l 0 0) (sym e)))
+other-version b h = ⊎-elim (λ e. absurd (h (ap (λ (l : List ℕ). getD l 0 0) (sym e)))) (λ e. e) (only-records b)
 
 pub zeroed : (n : ℕ) → decoded (replicate n 0x00) ≡ noUnit
 zeroed zero = other-version (replicate zero 0x00) (λ e. omega (arith, e))

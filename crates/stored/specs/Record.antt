@@ -8,9 +8,9 @@ use Rattle.laws.specs.Bytes.{sameBytes}
 use Rattle.sizes.specs.Sizes.{nonceSize}
 use Rattle.unit.specs.Change.{noUnit, unitOf}
 use Rattle.unit.specs.declared.TagUnit.{TagUnit}
-use Rattle.record_parts.specs.Part.{Fields, making, _then_of_, whole, bytesOf, valueOf}
-use Rattle.record_parts.specs.Kinds.{byteSize, byte, plain, numberOf, flag}
-use Rattle.record_parts.specs.Groups.{tenthsSize, settingsSize, clockSize, noncePartSize, accountsSize, identitySize, soundSize, identifierPartSize, settingsFields, clockFields, nonceFields, accountsFields, identityFields, soundFields, protectionFields, identifierFields}
+use Rattle.record_fields.specs.Part.{Fields, making, _then_of_, whole, bytesOf, valueOf}
+use Rattle.record_fields.specs.Kinds.{byteSize, byte, plain, numberOf, flag, tenthsSize}
+use Rattle.record_parts.specs.Groups.{settingsSize, clockSize, noncePartSize, accountsSize, identitySize, soundSize, identifierPartSize, settingsFields, clockFields, nonceFields, accountsFields, identityFields, soundFields, protectionFields, identifierFields}
 
 -- raised by every change of the layout; never 0x00 or 0xFF, so that zeroed and erased memory are no record
 abbrev pub version : ℕ

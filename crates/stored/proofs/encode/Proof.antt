@@ -3,8 +3,8 @@ use native.Mathlib.Omega.{arith}
 use mathlib.Core.Path.{_≡_}
 use lib.ListN.{length}
 use Rattle.octets.proofs.Pasting.{puts-then, puts-all}
-use Rattle.record_parts.proofs.Placing.{puts-none}
-use Rattle.record_parts.specs.Part.{bytesOf}
+use Rattle.record_fields.proofs.Placing.{puts-none}
+use Rattle.record_fields.specs.Part.{bytesOf}
 use Rattle.stored.specs.Record.{unitFields, recordSize, encoded}
 use borrow.Author.Needs.{needs}
 use Rattle.stored.proofs.encode.Statement.{statement}

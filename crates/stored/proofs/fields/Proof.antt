@@ -1,5 +1,5 @@
 -- `fields` meets its contract: each part from its place.
-use Rattle.record_parts.specs.Part.{valueOf}
+use Rattle.record_fields.specs.Part.{valueOf}
 use Rattle.stored.specs.Record.{unitFields}
 use borrow.Author.Needs.{needs}
 use Rattle.stored.proofs.fields.Statement.{statement}

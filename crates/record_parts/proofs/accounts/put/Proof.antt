@@ -1,8 +1,8 @@
 -- `accounts::put` meets its contract: one field right behind the other.
 use native.Mathlib.Omega.{arith}
 use Rattle.octets.proofs.Pasting.{puts-then}
-use Rattle.record_parts.proofs.Placing.{puts-none}
-use Rattle.record_parts.specs.Part.{bytesOf}
+use Rattle.record_fields.proofs.Placing.{puts-none}
+use Rattle.record_fields.specs.Part.{bytesOf}
 use Rattle.record_parts.specs.Groups.{accountsFields}
 use borrow.Author.Needs.{needs}
 use Rattle.record_parts.proofs.accounts.put.Statement.{statement}

@@ -1,5 +1,5 @@
 -- `clock::read` meets its contract: each field from its place.
-use Rattle.record_parts.specs.Part.{valueOf}
+use Rattle.record_fields.specs.Part.{valueOf}
 use Rattle.record_parts.specs.Groups.{clockFields}
 use borrow.Author.Needs.{needs}
 use Rattle.record_parts.proofs.clock.read.Statement.{statement}

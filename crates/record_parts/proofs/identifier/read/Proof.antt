@@ -1,5 +1,5 @@
 -- `identifier::read` meets its contract: each field from its place.
-use Rattle.record_parts.specs.Part.{valueOf}
+use Rattle.record_fields.specs.Part.{valueOf}
 use Rattle.record_parts.specs.Groups.{identifierFields}
 use borrow.Author.Needs.{needs}
 use Rattle.record_parts.proofs.identifier.read.Statement.{statement}

@@ -1,5 +1,5 @@
 -- `identity::read` meets its contract: each field from its place.
-use Rattle.record_parts.specs.Part.{valueOf}
+use Rattle.record_fields.specs.Part.{valueOf}
 use Rattle.record_parts.specs.Groups.{identityFields}
 use borrow.Author.Needs.{needs}
 use Rattle.record_parts.proofs.identity.read.Statement.{statement}

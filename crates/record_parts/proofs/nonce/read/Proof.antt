@@ -1,5 +1,5 @@
 -- `nonce::read` meets its contract: each field from its place.
-use Rattle.record_parts.specs.Part.{valueOf}
+use Rattle.record_fields.specs.Part.{valueOf}
 use Rattle.record_parts.specs.Groups.{nonceFields}
 use borrow.Author.Needs.{needs}
 use Rattle.record_parts.proofs.nonce.read.Statement.{statement}

@@ -1,7 +1,7 @@
 -- `owner::put` meets its contract, a case of the owner each.
 use mathlib.Core.Path.{_≡_}
 use Rattle.unit.specs.declared.Owner.{Owner}
-use Rattle.record_parts.specs.Part.{bytesOf}
+use Rattle.record_fields.specs.Part.{bytesOf}
 use Rattle.record_parts.specs.Groups.{ownerFields}
 use borrow.Author.Needs.{needs}
 use Rattle.record_parts.proofs.owner.put.Statement.{statement}

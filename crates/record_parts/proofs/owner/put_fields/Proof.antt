@@ -1,7 +1,7 @@
 -- `owner::put_fields` meets its contract: one field right behind the other.
 use native.Mathlib.Omega.{arith}
 use Rattle.octets.proofs.Pasting.{puts-then}
-use Rattle.record_parts.proofs.Placing.{puts-none}
+use Rattle.record_fields.proofs.Placing.{puts-none}
 use borrow.Author.Needs.{needs}
 use Rattle.record_parts.proofs.owner.put_fields.Statement.{statement}
 use Rattle.record_parts.proofs.owner.put_fields.Tie as tie

@@ -1,8 +1,8 @@
 -- `protection::put` meets its contract: its byte.
 use native.Mathlib.Omega.{arith}
 use Rattle.octets.proofs.Pasting.{puts-then}
-use Rattle.record_parts.proofs.Placing.{puts-none}
-use Rattle.record_parts.specs.Part.{bytesOf}
+use Rattle.record_fields.proofs.Placing.{puts-none}
+use Rattle.record_fields.specs.Part.{bytesOf}
 use Rattle.record_parts.specs.Groups.{protectionFields}
 use borrow.Author.Needs.{needs}
 use Rattle.record_parts.proofs.protection.put.Statement.{statement}

@@ -1,5 +1,5 @@
 -- `protection::read` meets its contract: what its byte means.
-use Rattle.record_parts.specs.Part.{valueOf}
+use Rattle.record_fields.specs.Part.{valueOf}
 use Rattle.record_parts.specs.Groups.{protectionFields}
 use borrow.Author.Needs.{needs}
 use Rattle.record_parts.proofs.protection.read.Statement.{statement}

@@ -4,8 +4,8 @@ use mathlib.Core.Path.{_≡_}
 use mir.Syntax.{w32}
 use mir.Val.{toZ, ofZ}
 use Rattle.octets.proofs.Pasting.{puts-then}
-use Rattle.record_parts.proofs.Placing.{puts-none}
-use Rattle.record_parts.specs.Part.{bytesOf}
+use Rattle.record_fields.proofs.Placing.{puts-none}
+use Rattle.record_fields.specs.Part.{bytesOf}
 use Rattle.record_parts.specs.Groups.{settingsFields}
 use borrow.Author.Needs.{needs}
 use Rattle.record_parts.proofs.settings.put.Statement.{statement}

@@ -2,7 +2,7 @@
 use mathlib.Core.Path.{_≡_}
 use mir.Syntax.{w32}
 use mir.Val.{toZ, ofZ}
-use Rattle.record_parts.specs.Part.{valueOf}
+use Rattle.record_fields.specs.Part.{valueOf}
 use Rattle.record_parts.specs.Groups.{settingsFields}
 use borrow.Author.Needs.{needs}
 use Rattle.record_parts.proofs.settings.read.Statement.{statement}

@@ -1,7 +1,7 @@
 -- `sound::put` meets its contract, a case of the sound each.
 use mathlib.Core.Path.{_≡_}
 use Rattle.unit.specs.declared.Sound.{Sound}
-use Rattle.record_parts.specs.Part.{bytesOf}
+use Rattle.record_fields.specs.Part.{bytesOf}
 use Rattle.record_parts.specs.Groups.{soundFields}
 use borrow.Author.Needs.{needs}
 use Rattle.record_parts.proofs.sound.put.Statement.{statement}

@@ -1,0 +1,4 @@
+pub mod Joining
+pub mod KindsKept
+pub mod Placing
+pub mod Power

@@ -1,0 +1,35 @@
+-- `plain::keys` meets its contract: the bytes copied over zeros.
+use Rattle.sizes.specs.Sizes.{keysRoom}
+use Rattle.record_fields.proofs.Placing.{copied-run}
+use borrow.Author.Needs.{needs}
+use Rattle.record_fields.proofs.plain.keys.Statement.{statement}
+use Rattle.record_fields.proofs.plain.keys.Tie as tie
+
+slice-aggregate-put : tie.Need-slice-aggregate-put
+slice-aggregate-put c = search needs
+
+add-put : tie.Need-add-put
+add-put c = search needs
+
+sub-put : tie.Need-sub-put
+sub-put c = search needs
+
+part-put-start : tie.Need-part-put-start
+part-put-start c = search needs
+
+part-put-end : tie.Need-part-put-end
+part-put-end c = search needs
+
+put-requires : tie.Need-put-requires
+put-requires c κs = search needs
+
+returns : tie.Need-returns
+returns c =
+    let put-at = c .before in
+    let start = put-at .before .before .before .before in
+    copied-run (start .args .from .now) (start .args .at) keysRoom (start .pre) (put-at .put .ensures)
+
+pub keys-spec : {M : Type 1} → statement M
+keys-spec =
+    tie.close
+    (tie.spec slice-aggregate-put add-put sub-put part-put-start part-put-end put-requires returns)
