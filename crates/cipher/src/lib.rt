@@ -6,6 +6,7 @@ use rounds::inv_cipher;
 use substitution::inv_sub_table;
 use substitution::sub_table;
 ghost use mathlib.Core.Path.{_≡_};
+ghost use Rattle.key_schedule.specs.Expansion.{KeyExpansion};
 ghost use Rattle.cipher.specs.Aes.{AES128, InvAES128, AES256};
 
 // Two blocks.
@@ -24,13 +25,21 @@ pub fn encrypt(key: [u8; 16], block: [u8; 16]) -> [u8; 16]
     cipher(&table, &keys, 10, block)
 }
 
-// AES-128: the block decrypted under the key.
-pub fn decrypt(key: [u8; 16], block: [u8; 16]) -> [u8; 16]
-    ensures { λ r. ⌜ r ≡ InvAES128 key block ⌝ }
+// The key schedule of AES-128. Its box is off the stack when it returns.
+fn schedule128(key: [u8; 16]) -> [u8; 176]
+    ensures { λ r. ⌜ r ≡ KeyExpansion 4 10 key ⌝ }
 {
     let table = sub_table();
     let mut keys = [0u8; 176];
     expand(&table, 4, 40, &key, &mut keys);
+    keys
+}
+
+// AES-128: the block decrypted under the key.
+pub fn decrypt(key: [u8; 16], block: [u8; 16]) -> [u8; 16]
+    ensures { λ r. ⌜ r ≡ InvAES128 key block ⌝ }
+{
+    let keys = schedule128(key);
     let inverse = inv_sub_table();
     inv_cipher(&inverse, &keys, 10, block)
 }
@@ -64,9 +73,7 @@ pub fn encrypt_pair(key: [u8; 16], first: [u8; 16], second: [u8; 16]) -> Blocks
 pub fn decrypt_pair(key: [u8; 16], first: [u8; 16], second: [u8; 16]) -> Blocks
     ensures { λ r. ⌜ (r .first ≡ InvAES128 key first) × (r .second ≡ InvAES128 key second) ⌝ }
 {
-    let table = sub_table();
-    let mut keys = [0u8; 176];
-    expand(&table, 4, 40, &key, &mut keys);
+    let keys = schedule128(key);
     let inverse = inv_sub_table();
     let one = inv_cipher(&inverse, &keys, 10, first);
     let two = inv_cipher(&inverse, &keys, 10, second);

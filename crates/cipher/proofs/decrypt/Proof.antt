@@ -1,21 +1,11 @@
 -- `cipher::decrypt` is AES-128 backwards: the key expanded, and the inverse cipher under it.
 use Rattle.cipher.specs.Aes.{InvAES128}
-use Rattle.key_schedule.specs.Expansion.{KeyExpansion}
 use borrow.Author.Needs.{needs}
 use Rattle.cipher.proofs.decrypt.Statement.{statement}
 use Rattle.cipher.proofs.decrypt.Tie as tie
 
-sub-table-requires : tie.Need-sub-table-requires
-sub-table-requires c κs = search needs
-
-slice-aggregate-expand : tie.Need-slice-aggregate-expand
-slice-aggregate-expand c = search needs
-
-slice-aggregate-expand-2 : tie.Need-slice-aggregate-expand-2
-slice-aggregate-expand-2 c = search needs
-
-expand-requires : tie.Need-expand-requires
-expand-requires c κs = search needs
+schedule128-requires : tie.Need-schedule128-requires
+schedule128-requires c κs = search needs
 
 inv-sub-table-requires : tie.Need-inv-sub-table-requires
 inv-sub-table-requires c κs = search needs
@@ -27,17 +17,14 @@ inv-cipher-requires : tie.Need-inv-cipher-requires
 inv-cipher-requires c κs = search needs
 
 returns : tie.Need-returns
-unfolding InvAES128 KeyExpansion
+unfolding InvAES128
 returns c = cc
 
 pub decrypt-spec : {M : Type 1} → statement M
 decrypt-spec =
     tie.close
     (tie.spec
-    sub-table-requires
-    slice-aggregate-expand
-    slice-aggregate-expand-2
-    expand-requires
+    schedule128-requires
     inv-sub-table-requires
     slice-aggregate-inv-cipher
     inv-cipher-requires

@@ -1,21 +1,11 @@
 -- `cipher::decrypt_pair` expands the key once, for two blocks.
 use Rattle.cipher.specs.Aes.{InvAES128}
-use Rattle.key_schedule.specs.Expansion.{KeyExpansion}
 use borrow.Author.Needs.{needs}
 use Rattle.cipher.proofs.decrypt_pair.Statement.{statement}
 use Rattle.cipher.proofs.decrypt_pair.Tie as tie
 
-sub-table-requires : tie.Need-sub-table-requires
-sub-table-requires c κs = search needs
-
-slice-aggregate-expand : tie.Need-slice-aggregate-expand
-slice-aggregate-expand c = search needs
-
-slice-aggregate-expand-2 : tie.Need-slice-aggregate-expand-2
-slice-aggregate-expand-2 c = search needs
-
-expand-requires : tie.Need-expand-requires
-expand-requires c κs = search needs
+schedule128-requires : tie.Need-schedule128-requires
+schedule128-requires c κs = search needs
 
 inv-sub-table-requires : tie.Need-inv-sub-table-requires
 inv-sub-table-requires c κs = search needs
@@ -33,17 +23,14 @@ inv-cipher-requires-2 : tie.Need-inv-cipher-requires-2
 inv-cipher-requires-2 c κs = search needs
 
 returns : tie.Need-returns
-unfolding InvAES128 KeyExpansion
+unfolding InvAES128
 returns c = (cc, cc)
 
 pub decrypt-pair-spec : {M : Type 1} → statement M
 decrypt-pair-spec =
     tie.close
     (tie.spec
-    sub-table-requires
-    slice-aggregate-expand
-    slice-aggregate-expand-2
-    expand-requires
+    schedule128-requires
     inv-sub-table-requires
     slice-aggregate-inv-cipher
     inv-cipher-requires
