@@ -232,7 +232,7 @@ fn times_base(c: &Curve, number: [u8; 32]) -> (Form, Form) {
 }
 
 fn hex(t: Form, size: usize) -> String {
-    (0..size).rev().map(|i| format!("{:02x}", t[i / 4] >> (8 * (i % 4)) & 255)).collect()
+    (0..2 * size).rev().map(|i| char::from_digit(t[i / 8] >> (4 * (i % 8)) & 15, 16).unwrap()).collect()
 }
 
 fn main() {
