@@ -12,22 +12,22 @@ static ucontext_t here, there;
 static uint64_t served;
 
 static void nothing(void) {}
-static void read_nonce(void) { static uint8_t n[8]; n[0]++; tag_read(record, sizeof record, n, 8, answer, 42); }
+static void read_nonce(void) { static uint8_t n[8]; n[0]++; tag_read(record, sizeof record, n, 8, answer, TAG_ANSWER_ROOM); }
 static void add_key(void) { tag_account_key(record, sizeof record, key, 16); }
-static void button(void) { tag_button(record, sizeof record, answer, 42); }
-static void elapsed(void) { tag_elapsed(record, sizeof record, 1000, answer, 42); }
-static void frame(void) { tag_frame(record, sizeof record, answer, 42); }
+static void button(void) { tag_button(record, sizeof record, answer, TAG_ANSWER_ROOM); }
+static void elapsed(void) { tag_elapsed(record, sizeof record, 1000, answer, TAG_ANSWER_ROOM); }
+static void frame(void) { tag_frame(record, sizeof record, answer, TAG_ANSWER_ROOM); }
 static void hash(void) { tag_sha256(message, sizeof message, answer, 32); }
 static void mac(void) { tag_hmac_sha256(key, 16, message, sizeof message, answer, 32); }
 static void encrypt(void) { tag_aes128_encrypt(key, 16, key, 16, answer, 16); }
 /* 0x00 with the tag of the account key: search, HMAC, AES and the signed answer */
 static void write_request(void) {
     uint8_t covered[11] = {1}, tag[32], w[10] = {0x00, 8};
-    memcpy(covered + 1, record + 13, 8);
+    memcpy(covered + 1, record + TAG_NONCE_BYTES_AT, TAG_NONCE_SIZE);
     covered[9] = 0x00, covered[10] = 8;
     tag_hmac_sha256(key, 16, covered, 11, tag, 32);
     memcpy(w + 2, tag, 8);
-    served = tag_write(record, sizeof record, w, 10, answer, 42);
+    served = tag_write(record, sizeof record, w, 10, answer, TAG_ANSWER_ROOM);
 }
 
 static size_t used(void (*f)(void)) {

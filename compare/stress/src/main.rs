@@ -6,6 +6,7 @@ use std::collections::BTreeMap;
 
 const RECORD: usize = 215;
 const VERSION: u8 = 1;
+const ANSWER_ROOM: usize = 42;
 const NONCE_LIVE_AT: usize = 13;
 const NONCE_AT: usize = 14;
 const KEYS_AT: usize = 39;
@@ -231,7 +232,7 @@ fn theirs(c: &Call, record: &mut Vec<u8>, answer: &mut [u8]) -> u64 {
             Err(refusal) => 256 + refusal as u64,
         };
     }
-    let roomless = matches!(c, Call::Read(_) | Call::Write(_) | Call::Button | Call::Elapsed(_) | Call::Frame) && answer.len() < 42;
+    let roomless = matches!(c, Call::Read(_) | Call::Write(_) | Call::Button | Call::Elapsed(_) | Call::Frame) && answer.len() < ANSWER_ROOM;
     let Some(mut unit) = decode(record) else {
         return if roomless { 256 + 6 } else { 256 + 2 };
     };
@@ -361,7 +362,7 @@ fn main() {
     for step in 0..calls {
         let before = if rng.one_in(8) { damaged(&mut rng, &record) } else { record.clone() };
         let call = some_call(&mut rng, &before);
-        let room = if rng.one_in(6) { rng.below(65) as usize } else { 42 + rng.below(3) as usize };
+        let room = if rng.one_in(6) { rng.below(65) as usize } else { ANSWER_ROOM + rng.below(3) as usize };
         let lent = rng.bytes(room);
         let (mut r1, mut r2, mut a1, mut a2) = (before.clone(), before.clone(), lent.clone(), lent.clone());
         let got = ours(&call, &mut r1, &mut a1);
