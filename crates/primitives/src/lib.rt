@@ -1,6 +1,5 @@
 // The hash, the message authentication code and the block cipher that the tag uses: the public calls, which refuse a wrong size with 7,
 // and the same work on sizes that are known to be right, for the crates above.
-pub use cipher::Blocks;
 pub use hash::Keyed;
 ghost use mathlib.Core.Path.{_≡_};
 ghost use mathlib.Core.List.{List, _++_};
@@ -168,18 +167,36 @@ pub fn decrypt(key: [u8; 16], block: [u8; 16]) -> [u8; 16]
     cipher::decrypt(key, block)
 }
 
-// AES-128 of two blocks under one key.
+// Two blocks.
+pub struct Blocks {
+    pub first: [u8; 16],
+    pub second: [u8; 16],
+}
+
+// AES-128 of two blocks under one key, expanded once.
 pub fn encrypt_pair(key: [u8; 16], first: [u8; 16], second: [u8; 16]) -> Blocks
     ensures { λ r. ⌜ (r .first ≡ AES128 key first) × (r .second ≡ AES128 key second) ⌝ }
 {
-    cipher::encrypt_pair(key, first, second)
+    let done = cipher::encrypt_pair(key, first, second);
+    let head = done.first;
+    let tail = done.second;
+    Blocks {
+        first: head,
+        second: tail,
+    }
 }
 
 // Its inverse.
 pub fn decrypt_pair(key: [u8; 16], first: [u8; 16], second: [u8; 16]) -> Blocks
     ensures { λ r. ⌜ (r .first ≡ InvAES128 key first) × (r .second ≡ InvAES128 key second) ⌝ }
 {
-    cipher::decrypt_pair(key, first, second)
+    let done = cipher::decrypt_pair(key, first, second);
+    let head = done.first;
+    let tail = done.second;
+    Blocks {
+        first: head,
+        second: tail,
+    }
 }
 
 // AES-256 of one block.
@@ -193,5 +210,11 @@ pub fn encrypt256(key: [u8; 32], block: [u8; 16]) -> [u8; 16]
 pub fn encrypt256_pair(key: [u8; 32], first: [u8; 16], second: [u8; 16]) -> Blocks
     ensures { λ r. ⌜ (r .first ≡ AES256 key first) × (r .second ≡ AES256 key second) ⌝ }
 {
-    cipher::encrypt256_pair(key, first, second)
+    let done = cipher::encrypt256_pair(key, first, second);
+    let head = done.first;
+    let tail = done.second;
+    Blocks {
+        first: head,
+        second: tail,
+    }
 }

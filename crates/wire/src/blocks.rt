@@ -32,9 +32,12 @@ pub fn decrypted_key(key: [u8; ACCOUNT_KEY_SIZE], cipher: &[u8]) -> [u8; IDENTIT
     requires { ⌜ identityKeySize ≤ length (now cipher) ⌝ }
     ensures { λ r. ⌜ r ≡ decryptedKey key (now (cipher .entry)) ⌝ }
 {
-    let first = primitives::decrypt(key, block_at(cipher, 0));
-    let second = primitives::decrypt(key, block_at(cipher, BLOCK_SIZE));
-    joined(first, second)
+    let first = block_at(cipher, 0);
+    let second = block_at(cipher, BLOCK_SIZE);
+    let plain = primitives::decrypt_pair(key, first, second);
+    let head = plain.first;
+    let tail = plain.second;
+    joined(head, tail)
 }
 
 // The identity key, encrypted with the owner key.
@@ -44,7 +47,10 @@ pub fn encrypted_key(
 ) -> [u8; IDENTITY_KEY_SIZE]
     ensures { λ r. ⌜ r ≡ encryptedKey key identity ⌝ }
 {
-    let first = primitives::encrypt(key, block_at(&identity, 0));
-    let second = primitives::encrypt(key, block_at(&identity, BLOCK_SIZE));
-    joined(first, second)
+    let first = block_at(&identity, 0);
+    let second = block_at(&identity, BLOCK_SIZE);
+    let cipher = primitives::encrypt_pair(key, first, second);
+    let head = cipher.first;
+    let tail = cipher.second;
+    joined(head, tail)
 }

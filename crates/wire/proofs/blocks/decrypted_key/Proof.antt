@@ -1,4 +1,4 @@
--- `blocks::decrypted_key` meets its contract: the blocks one by one.
+-- `blocks::decrypted_key` meets its contract: the two blocks under one key.
 use Rattle.wire.specs.KeyBlocks.{decryptedKey}
 use borrow.Author.Needs.{needs}
 use Rattle.wire.proofs.blocks.decrypted_key.Statement.{statement}
@@ -7,14 +7,11 @@ use Rattle.wire.proofs.blocks.decrypted_key.Tie as tie
 block-at-requires : tie.Need-block-at-requires
 block-at-requires c κs = search needs
 
-decrypt-requires : tie.Need-decrypt-requires
-decrypt-requires c κs = search needs
-
 block-at-requires-2 : tie.Need-block-at-requires-2
 block-at-requires-2 c κs = search needs
 
-decrypt-requires-2 : tie.Need-decrypt-requires-2
-decrypt-requires-2 c κs = search needs
+decrypt-pair-requires : tie.Need-decrypt-pair-requires
+decrypt-pair-requires c κs = search needs
 
 joined-requires : tie.Need-joined-requires
 joined-requires c κs = search needs
@@ -26,10 +23,4 @@ returns c = cc
 pub decrypted-key-spec : {M : Type 1} → statement M
 decrypted-key-spec =
     tie.close
-    (tie.spec
-    block-at-requires
-    decrypt-requires
-    block-at-requires-2
-    decrypt-requires-2
-    joined-requires
-    returns)
+    (tie.spec block-at-requires block-at-requires-2 decrypt-pair-requires joined-requires returns)

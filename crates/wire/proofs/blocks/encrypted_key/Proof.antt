@@ -1,4 +1,4 @@
--- `blocks::encrypted_key` meets its contract: the blocks one by one.
+-- `blocks::encrypted_key` meets its contract: the two blocks under one key.
 use Rattle.wire.specs.KeyBlocks.{encryptedKey}
 use borrow.Author.Needs.{needs}
 use Rattle.wire.proofs.blocks.encrypted_key.Statement.{statement}
@@ -10,17 +10,14 @@ slice-aggregate-block-at c = search needs
 block-at-requires : tie.Need-block-at-requires
 block-at-requires c κs = search needs
 
-encrypt-requires : tie.Need-encrypt-requires
-encrypt-requires c κs = search needs
-
 slice-aggregate-block-at-2 : tie.Need-slice-aggregate-block-at-2
 slice-aggregate-block-at-2 c = search needs
 
 block-at-requires-2 : tie.Need-block-at-requires-2
 block-at-requires-2 c κs = search needs
 
-encrypt-requires-2 : tie.Need-encrypt-requires-2
-encrypt-requires-2 c κs = search needs
+encrypt-pair-requires : tie.Need-encrypt-pair-requires
+encrypt-pair-requires c κs = search needs
 
 joined-requires : tie.Need-joined-requires
 joined-requires c κs = search needs
@@ -35,9 +32,8 @@ encrypted-key-spec =
     (tie.spec
     slice-aggregate-block-at
     block-at-requires
-    encrypt-requires
     slice-aggregate-block-at-2
     block-at-requires-2
-    encrypt-requires-2
+    encrypt-pair-requires
     joined-requires
     returns)
