@@ -1,5 +1,6 @@
--- Demand 1: "Every call on any bytes and any unit record ends, with a result or one refusal of a numbered list. A write refused with
--- 0x80, 0x81, 0x82 spends the nonce and changes nothing else; other refusals change nothing; no refusal touches the lent answer bytes."
+-- Demand 1: "Every call on any bytes and any unit record ends, with a result or one refusal from the numbered list. A write refused with
+-- 0x80, 0x81 or 0x82 spends the nonce and changes nothing else in the unit; other refusals change nothing; no refusal touches the lent answer
+-- bytes."
 -- That each call of the code ends at all is part of what the prover shows of every function.
 use Prim.Native.Nat.{ℕ}
 use mathlib.Core.Path.{_≡_}

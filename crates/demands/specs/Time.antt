@@ -1,6 +1,6 @@
--- Demand 3: "The tag sleeps: two lists of calls with the same calls other than time and equal total time between them give the same
+-- Demand 3, the tag sleeps: two lists of calls with the same calls other than time and equal total time between them give the same
 -- answers, the same notifications at the same tenth and the same final unit, however the time is cut; and all of it equals what the plain
--- tag, moving one tenth at a time, gives." One claim about whole lists.
+-- tag, moving one tenth at a time, gives. One claim about whole lists.
 use Prim.Native.Nat.{ℕ, zero, suc, _+_}
 use mathlib.Core.Path.{_≡_}
 use mathlib.Core.Bool.{Bool, true, cond, _&&_}

@@ -1,5 +1,5 @@
 -- The printed texts: how long they are, and what they are with and without answer bytes.
-use Prim.Native.Nat.{ℕ, _+_, _≤_, _<_}
+use Prim.Native.Nat.{ℕ, _+_, _≤_, _<_, _*_}
 use mathlib.Core.Path.{_≡_, refl}
 use mathlib.Core.List.{List, [], _∷_, _++_}
 use native.Mathlib.Omega.{arith}
@@ -26,7 +26,7 @@ pub bytes-some : (a : List ℕ) → 0 < length a → line "bytes=" (hex a) ≡ b
 bytes-some [] h = absurd (omega arith)
 bytes-some (x ∷ a) h = refl
 
-pub length-bytes : (a : List ℕ) → length a ≤ answerRoom → length (bytesText a) ≤ 91
+pub length-bytes : (a : List ℕ) → length a ≤ answerRoom → length (bytesText a) ≤ 7 + 2 * answerRoom
 length-bytes [] h = omega arith
 length-bytes (x ∷ a) h = omega (arith, length-hex (x ∷ a), length-append (hex (x ∷ a)) (newline ∷ []))
 
@@ -44,9 +44,9 @@ pub notes-some : (at : ℕ) (a : List ℕ) → 0 < length a
 notes-some at [] h = absurd (omega arith)
 notes-some at (x ∷ a) h = rw one
 
-pub length-notes : (at : ℕ) (a : List ℕ) → length a ≤ answerRoom → length (notesText at a) ≤ 113
+pub length-notes : (at : ℕ) (a : List ℕ) → length a ≤ answerRoom → length (notesText at a) ≤ 29 + 2 * answerRoom
 unfolding decimal decimalIn
 length-notes at [] h = omega arith
 length-notes at (x ∷ a) h =
-    let size : length (line "bytes=" (hex (x ∷ a))) ≤ 91 = length-bytes (x ∷ a) h in
+    let size : length (line "bytes=" (hex (x ∷ a))) ≤ 7 + 2 * answerRoom = length-bytes (x ∷ a) h in
     omega (arith, length-decimal at, length-append (decimal at) (newline ∷ []), length-append (decimal at ++ (newline ∷ [])) (line "bytes=" (hex (x ∷ a))))

@@ -5,19 +5,20 @@ use native.Mathlib.Omega.{arith}
 use lib.ListN.{length}
 use lib.Seq.{length-take-le}
 use borrow.Author.Needs.{needs}
+use Rattle.sizes.specs.Sizes.{accountKeySize, mostData}
 use Rattle.authentication.proofs.answering.write_signed.Statement.{statement}
 use Rattle.authentication.proofs.answering.write_signed.Tie as tie
 
 array-share-prefix-key : tie.Need-array-share-prefix-key
 array-share-prefix-key c =
     let start = c .before .before in
-    let long : length (start .args .k .bytes) ≡ 16 = search needs in
+    let long : length (start .args .k .bytes) ≡ accountKeySize = search needs in
     omega (arith, start .pre .0)
 
 slice-aggregate-sign : tie.Need-slice-aggregate-sign
 slice-aggregate-sign c =
     let start = c .before .before .before in
-    let long : length (start .args .k .bytes) ≡ 16 = search needs in
+    let long : length (start .args .k .bytes) ≡ accountKeySize = search needs in
     sym (length-take-le (start .args .k .size) (start .args .k .bytes) (omega (arith, start .pre .0)))
 
 array-share-prefix-payload : tie.Need-array-share-prefix-payload
@@ -26,14 +27,14 @@ array-share-prefix-payload c = search needs
 slice-aggregate-sign-2 : tie.Need-slice-aggregate-sign-2
 slice-aggregate-sign-2 c =
     let start = c .before .before .before .before in
-    let long : length (start .args .t5) ≡ 32 = search needs in
+    let long : length (start .args .t5) ≡ mostData = search needs in
     sym (length-take-le (start .args .size) (start .args .t5) (omega (arith, start .pre .1 .0)))
 
 sign-requires : tie.Need-sign-requires
 sign-requires c κs =
     let start = c .before .before .before .before .before in
-    let keyed : length (start .args .k .bytes) ≡ 16 = search needs in
-    let long : length (start .args .t5) ≡ 32 = search needs in (
+    let keyed : length (start .args .k .bytes) ≡ accountKeySize = search needs in
+    let long : length (start .args .t5) ≡ mostData = search needs in (
       omega (arith, length-take-le (start .args .k .size) (start .args .k .bytes) (omega (arith, start .pre .0)), start .pre .0),
       (omega (arith, length-take-le (start .args .size) (start .args .t5) (omega (arith, start .pre .1 .0)), start .pre .1 .0), start .pre .1 .1),
     )
