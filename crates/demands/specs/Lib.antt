@@ -1,3 +1,4 @@
+pub mod Spelled
 pub mod History
 pub mod Ends
 pub mod Formed
