@@ -64,6 +64,6 @@ unfoldable pub signedByOwner : TagUnit → Request → Option (List ℕ)
 signedByOwner u q = onlyIf (λ k. tagged k (lastNonce u) q) (ownerKey (u .accounts))
 
 -- an accepted request gives the unit after it and its answer; a refused one leaves the unit that it was judged on
-abbrev pub settled : TagUnit → Judgement → Outcome
-settled u (accepts after answer) = giving answer after
-settled u (rejects n) = refusing n u
+abbrev pub concluded : TagUnit → Judgement → Outcome
+concluded u (accepts after answer) = giving answer after
+concluded u (rejects n) = refusing n u

@@ -9,7 +9,7 @@ use Rattle.sizes.specs.Sizes.{tagSize, accountKeySize, mostData}
 use Rattle.wire.specs.Signing.{signed}
 use Rattle.unit.specs.declared.TagUnit.{TagUnit}
 use Rattle.unit.specs.declared.Refusal.{Refusal}
-use Rattle.unit.specs.Refusals.{number}
+use Rattle.unit.specs.Refusals.{refusalNumber}
 use Rattle.unit.specs.WellFormed.{wellFormed}
 use Rattle.authentication.specs.declared.Found.{Found}
 use Rattle.authentication.specs.declared.SigningKey.{SigningKey}
@@ -46,11 +46,11 @@ pub record Ready (u : TagUnit) (size : ℕ) (additional : List ℕ) : Type 0 whe
 
 -- the judgement that a verdict stands for, where the answer has this ID
 abbrev pub judgementOf : TagUnit → ℕ → Verdict → Ruling → Judgement
-judgementOf u id v (Ruling.Denied x) = rejects (number x)
+judgementOf u id v (Ruling.Denied x) = rejects (refusalNumber x)
 judgementOf u id v Ruling.Granted =
     accepts (v .unit) (signed (signingBytes (v .key)) (lastNonce u) id (take (v .size) (v .payload)))
 
--- a verdict can be settled: its data and its key fit
+-- a verdict can be concluded: its data and its key fit
 pub record Signable (v : Verdict) : Type 0 where
   pub dataFit : v .size ≤ mostData
   pub keyFits : v .key .size ≤ accountKeySize

@@ -6,7 +6,7 @@ ghost use Rattle.sizes.specs.Sizes.{accountKeySize, mostData, answerRoom};
 ghost use Rattle.unit.specs.Outcome.{Answers};
 ghost use Rattle.wire.specs.Signing.{signed};
 ghost use Rattle.laws.specs.Answer.{Wrote};
-ghost use Rattle.authentication.specs.Judgement.{settled};
+ghost use Rattle.authentication.specs.Judgement.{concluded};
 ghost use Rattle.authentication.specs.Promises.{signingBytes, Grants, Denies, Signable, judgementOf};
 use crate::Ruling;
 use crate::SigningKey;
@@ -71,9 +71,9 @@ fn write_signed(
 }
 
 // Ends a request that was judged on this unit: refuses, or writes the signed answer.
-pub fn settle(u: TagUnit, v: Verdict, id: u8, answer: &mut [u8]) -> Step
+pub fn conclude(u: TagUnit, v: Verdict, id: u8, answer: &mut [u8]) -> Step
     requires { ⌜ Signable v × (answerRoom ≤ length (now answer)) ⌝ }
-    ensures { λ r. ⌜ Answers (settled u (judgementOf u id v (v .ruling))) (r .unit) (r .reply) (now (answer .entry)) (now (answer .exit)) ⌝ }
+    ensures { λ r. ⌜ Answers (concluded u (judgementOf u id v (v .ruling))) (r .unit) (r .reply) (now (answer .entry)) (now (answer .exit)) ⌝ }
 {
     let ruling = v.ruling;
     match ruling {

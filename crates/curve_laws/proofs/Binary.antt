@@ -8,7 +8,7 @@ use lib.Dec.{eqb}
 use Rattle.curve_laws.specs.Modulo.{plus, times, inverse, over}
 use Rattle.curve_laws.specs.Points.{Point, infinity, at, xOf, OnCurve, discriminant, double, add, total}
 use Rattle.curve_laws.specs.Valid.{Prime}
-use Rattle.curve_laws.proofs.Modular.{Same, same-eq, settle}
+use Rattle.curve_laws.proofs.Modular.{Same, same-eq, equal-below}
 use Rattle.curve_laws.proofs.Modulo.{times-below, times-zero}
 use Rattle.curve_laws.proofs.Field.{NonZero, positive, inverse-zero, over-times, times-nonzero, below-zero, follows-divided}
 use Rattle.curve_laws.proofs.Ring.{var, _⊗_, _⊟_, gap}
@@ -44,7 +44,7 @@ module _ {p : ℕ} (P : Prime p) (odd : 2 < p) where
       let square : ℕ = times p (j .Z) (j .Z) in
       let some : NonZero p square = times-nonzero P (s .shape .0) (s .shape .0) in
       let ρ : List ℕ = over p (j .X) square ∷ square ∷ x ∷ j .X ∷ [] in
-      settle
+      equal-below
       (follows-divided P
       (gap h ρ (var 0 ⊗ var 1) (var 3) (over-times P (j .X) square some) ⊟ gap h ρ (var 2 ⊗ var 1) (var 3) (s .shape .1)) (var 1)
       (var 0) (var 2) some tt)
@@ -76,7 +76,10 @@ module _ {p : ℕ} (P : Prime p) (odd : 2 < p) where
         (turned (r % 2) (binary p x y bits (r / 2)) (total p a (r / 2) (at x y)) (total-on P odd a b smooth (at x y) on (r / 2))
         (binary-stands bits (r / 2) (omega arith)))
 
+    -- the x coordinate of a triple that stands for the multiple
+    pub stands-x : (r : ℕ) (j : Triple) → Stands p j (total p a r (at x y)) → affineX p j ≡ xOf (total p a r (at x y))
+    stands-x r j s =
+        affine j (total p a r (at x y)) (below-of p a b (total p a r (at x y)) (total-on P odd a b smooth (at x y) on r)) s
+
     pub binary-x : (bits r : ℕ) → r < 2 ^ bits → affineX p (binary p x y bits r) ≡ xOf (total p a r (at x y))
-    binary-x bits r l =
-        affine (binary p x y bits r) (total p a r (at x y))
-        (below-of p a b (total p a r (at x y)) (total-on P odd a b smooth (at x y) on r)) (binary-stands bits r l)
+    binary-x bits r l = stands-x r (binary p x y bits r) (binary-stands bits r l)

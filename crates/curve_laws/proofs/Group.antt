@@ -7,7 +7,7 @@ use native.Mathlib.Decide.{ℕ-discrete}
 use Rattle.curve_laws.specs.Modulo.{times, minus, over}
 use Rattle.curve_laws.specs.Points.{Point, infinity, at, OnCurve, discriminant, third, thirdX, thirdY, add}
 use Rattle.curve_laws.specs.Valid.{Prime}
-use Rattle.curve_laws.proofs.Modular.{Same, same-eq, back, settle}
+use Rattle.curve_laws.proofs.Modular.{Same, same-eq, back, equal-below}
 use Rattle.curve_laws.proofs.Modulo.{none-minus}
 use Rattle.curve_laws.proofs.Ring.{var, num, _⊕_, _⊖_, _⊗_, none, _⊟_, gap, follows}
 use Rattle.curve_laws.proofs.Field.{NonZero, positive, same?, over-times}
@@ -91,7 +91,7 @@ module _ {p : ℕ} (P : Prime p) (odd : 2 < p) (a b : ℕ) (smooth : NonZero p (
 
     one-line : (l : ℕ) → Line p a l x₁ y₁ x₂ y₂ → Line p a l x₂ y₂ x₃ y₃ → Dec (x₁ ≡ x₃) → Associative
     one-line l L M (yes e) =
-        let f : y₁ ≡ y₃ = settle (in-line-same P odd a l x₁ y₁ x₂ y₂ x₃ y₃ L M (same-eq e)) (on₁ .1) (on₃ .1) in
+        let f : y₁ ≡ y₃ = equal-below (in-line-same P odd a l x₁ y₁ x₂ y₂ x₃ y₃ L M (same-eq e)) (on₁ .1) (on₃ .1) in
         let again : at x₁ y₁ ≡ at x₃ y₃ = ap₂ at e f in
         ap (λ (Q : Point). add p a (add p a (at x₁ y₁) (at x₂ y₂)) Q) (sym again)
         ∙ add-comm P odd a b (add p a (at x₁ y₁) (at x₂ y₂)) (at x₁ y₁) (add-on P odd a b (at x₁ y₁) (at x₂ y₂) on₁ on₂) on₁
@@ -106,10 +106,10 @@ module _ {p : ℕ} (P : Prime p) (odd : 2 < p) (a b : ℕ) (smooth : NonZero p (
         = in-line-x P odd a l x₃ y₃ x₂ y₂ x₁ y₁ M' L' (distinct P (on₃ .0) (on₁ .0) (λ e. n (sym e))) in
         by-parts l l L M
         (add-opposite P odd a b (xₛ l l L M) (yₛ l l L M) x₃ y₃ (first-on l l L M .1)
-        (settle ex (third-X-below h l x₁ x₂) (on₃ .0), in-line-y P odd a l x₁ y₁ x₂ y₂ x₃ y₃ L M ex))
+        (equal-below ex (third-X-below h l x₁ x₂) (on₃ .0), in-line-y P odd a l x₁ y₁ x₂ y₂ x₃ y₃ L M ex))
         (add-opposite P odd a b x₁ y₁ (xₜ l l L M) (yₜ l l L M) (on₁ .1)
         (opposite-back P odd a b (xₜ l l L M) (yₜ l l L M) x₁ y₁
-        (settle fx (third-X-below h l x₃ x₂) (on₁ .0), in-line-y P odd a l x₃ y₃ x₂ y₂ x₁ y₁ M' L' fx)))
+        (equal-below fx (third-X-below h l x₃ x₂) (on₁ .0), in-line-y P odd a l x₃ y₃ x₂ y₂ x₁ y₁ M' L' fx)))
 
     two-lines : (l m : ℕ) → Line p a l x₁ y₁ x₂ y₂ → Line p a m x₂ y₂ x₃ y₃ → (Same p l m → ⊥) → Associative
     two-lines l m L M n =
@@ -201,7 +201,7 @@ module _ {p : ℕ} (P : Prime p) (odd : 2 < p) (a b : ℕ) (smooth : NonZero p (
       let f : Same p y₃ y₁
       = follows h ρ (gap h ρ (var 1 ⊕ var 2) (num 0) (q .1) ⊟ gap h ρ (var 0 ⊕ var 1) (num 0) (o .1)) (var 2) (var 0) tt in
       rw (add-opposite P odd a b x₁ y₁ x₂ y₂ (on₁ .1) o, add-opposite P odd a b x₂ y₂ x₃ y₃ (on₂ .1) q, add-left, add-right)
-      (ap₂ at (sym (o .0 ∙ q .0)) (settle f (on₃ .1) (on₁ .1)))
+      (ap₂ at (sym (o .0 ∙ q .0)) (equal-below f (on₃ .1) (on₁ .1)))
   finite-associative x₁ y₁ x₂ y₂ x₃ y₃ on₁ on₂ on₃ (yes o) (no n) =
       rw (add-opposite P odd a b x₁ y₁ x₂ y₂ (on₁ .1) o, add-left) (sym (undo x₁ y₁ x₂ y₂ x₃ y₃ on₁ on₂ on₃ o n))
   finite-associative x₁ y₁ x₂ y₂ x₃ y₃ on₁ on₂ on₃ (no n) (yes q) =

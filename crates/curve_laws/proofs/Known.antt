@@ -9,7 +9,7 @@ use Rattle.curve_laws.specs.Modulo.{plus, times}
 use Rattle.curve_laws.specs.Points.{Point, infinity, at, OnCurve, discriminant, total}
 use Rattle.curve_laws.specs.Valid.{Prime}
 use Rattle.curve_laws.proofs.Tests.{both}
-use Rattle.curve_laws.proofs.Modular.{Same, same-eq, settle}
+use Rattle.curve_laws.proofs.Modular.{Same, same-eq, equal-below}
 use Rattle.curve_laws.proofs.Field.{NonZero, positive, times-nonzero, below-nonzero, follows-divided}
 use Rattle.curve_laws.proofs.Ring.{var, _⊗_, _⊟_, gap}
 use Rattle.curve_laws.proofs.Multiples.{total-on}
@@ -47,8 +47,8 @@ module _ {p : ℕ} (P : Prime p) where
       let z : ℕ = j .Z in
       let some : NonZero p z = s .shape .0 in
       ap₂ at
-      (settle (same-quotient x x' (times p z z) (j .X) (times-nonzero P some some) (s .shape .1) (s' .shape .1)) (b .0) (b' .0))
-      (settle
+      (equal-below (same-quotient x x' (times p z z) (j .X) (times-nonzero P some some) (s .shape .1) (s' .shape .1)) (b .0) (b' .0))
+      (equal-below
       (same-quotient y y' (times p z (times p z z)) (j .Y) (times-nonzero P some (times-nonzero P some some)) (s .shape .2) (s' .shape .2))
       (b .1) (b' .1))
 

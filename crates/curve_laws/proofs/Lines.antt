@@ -7,7 +7,7 @@ use Prim.Native.Nat.{ℕ, _<_}
 use Rattle.curve_laws.specs.Modulo.{plus, times, minus}
 use Rattle.curve_laws.specs.Points.{at, equation, third, thirdX, thirdY, chord, tangent}
 use Rattle.curve_laws.specs.Valid.{Prime}
-use Rattle.curve_laws.proofs.Modular.{Same, same-eq, settle}
+use Rattle.curve_laws.proofs.Modular.{Same, same-eq, equal-below}
 use Rattle.curve_laws.proofs.Modulo.{plus-below, times-below, minus-below, none-minus}
 use Rattle.curve_laws.proofs.Ring.{Expr, var, num, _⊕_, _⊖_, _⊗_, value, Zero, none, _⊞_, _⊟_, _⊡_, gap, combined, follows}
 use Rattle.curve_laws.proofs.Field.{NonZero, positive, same?, divided, follows-divided}
@@ -51,7 +51,7 @@ module _ {p : ℕ} (h : 0 < p) (ρ : List ℕ) where
   equation-of : (a b x y : Expr) → Zero p ρ (curves a b x y) → equation p (value p ρ a) (value p ρ b) (value p ρ x) (value p ρ y)
   unfolding equation
   equation-of a b x y z =
-      settle (none-minus h (z .is-zero)) (times-below h (value p ρ y) (value p ρ y))
+      equal-below (none-minus h (z .is-zero)) (times-below h (value p ρ y) (value p ρ y))
       (plus-below h (value p ρ (x ⊗ (x ⊗ x) ⊕ a ⊗ x)) (value p ρ b))
 
   pub line-of : (a l x₁ y₁ x₂ y₂ : Expr) → Zero p ρ (rises l x₁ y₁ x₂ y₂) → Zero p ρ (bends a l x₁ y₁ x₂ y₂)
@@ -146,7 +146,7 @@ module _ {p : ℕ} (h : 0 < p) where
       → third p l₀ u v u' ≡ at x y
   unfolding third
   third-is l₀ u v u' lx ly ex ey =
-      ap₂ at (settle ex (third-X-below l₀ u u') lx) (settle ey (third-Y-below l₀ u v (thirdX p l₀ u u')) ly)
+      ap₂ at (equal-below ex (third-X-below l₀ u u') lx) (equal-below ey (third-Y-below l₀ u v (thirdX p l₀ u u')) ly)
 
   pub thirds : (l₀ u v u' m₀ w z w' : ℕ) → Same p (thirdX p l₀ u u') (thirdX p m₀ w w')
       → Same p (thirdY p l₀ u v (thirdX p l₀ u u')) (thirdY p m₀ w z (thirdX p m₀ w w')) → third p l₀ u v u' ≡ third p m₀ w z w'

@@ -8,7 +8,7 @@ use lib.Dec.{eqb}
 use lib.Pow.{pow-add, shr-shr}
 use borrow.Author.Tests.{eqb-true, eqb-false}
 use Rattle.curve_laws.specs.Modulo.{plus, times, power}
-use Rattle.curve_laws.proofs.Modular.{Same, same, same-eq, back, _then_, rest-of, sums, products, settle}
+use Rattle.curve_laws.proofs.Modular.{Same, same, same-eq, back, _then_, rest-of, sums, products, equal-below}
 use Rattle.curve_laws.proofs.Modulo.{plus-same, plus-below, times-same, times-below}
 use Rattle.curve_laws.proofs.Powers.{power-one}
 use Rattle.curve_laws.proofs.Jacobian.{triple, turn, binary}
@@ -58,17 +58,17 @@ binary-next p x y i r m = ap (λ (k : ℕ). turn p x y (r / 2 ^ m % 2) (binary p
 
 module _ {p : ℕ} (h : 0 < p) (a : ℕ) where
   pub twice : plus p a a ≡ times p 2 a
-  twice = settle (plus-same p a a then same-eq (omega arith) then back (times-same p 2 a)) (plus-below h a a) (times-below h 2 a)
+  twice = equal-below (plus-same p a a then same-eq (omega arith) then back (times-same p 2 a)) (plus-below h a a) (times-below h 2 a)
 
   pub once-more : (k : ℕ) → plus p (times p k a) a ≡ times p (k + 1) a
   once-more k =
-      settle
+      equal-below
       (plus-same p (times p k a) a then sums (times-same p k a) (same a) then same-eq (omega arith) then back (times-same p (k + 1) a))
       (plus-below h (times p k a) a) (times-below h (k + 1) a)
 
   pub multiples : (j k : ℕ) → plus p (times p j a) (times p k a) ≡ times p (j + k) a
   multiples j k =
-      settle
+      equal-below
       (plus-same p (times p j a) (times p k a)
       then sums (times-same p j a) (times-same p k a)
       then same-eq (omega arith)

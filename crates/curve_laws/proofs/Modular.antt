@@ -33,8 +33,8 @@ pub multiple-of : (m k : ℕ) → Same m (k * m) 0
 multiple-of m k = same-eq (omega arith) then drops m 0 k
 
 -- equal below m, equal at all
-pub settle : {m a b : ℕ} → Same m a b → a < m → b < m → a ≡ b
-settle h p q = sym (mod-eq-of-lt p) ∙ h .rest ∙ mod-eq-of-lt q
+pub equal-below : {m a b : ℕ} → Same m a b → a < m → b < m → a ≡ b
+equal-below h p q = sym (mod-eq-of-lt p) ∙ h .rest ∙ mod-eq-of-lt q
 
 plus-left : {m a b : ℕ} (c : ℕ) → Same m a b → Same m (a + c) (b + c)
 plus-left {m} {a} {b} c h =

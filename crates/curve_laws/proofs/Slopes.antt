@@ -5,14 +5,14 @@ use native.Mathlib.Omega.{arith}
 use Rattle.curve_laws.specs.Modulo.{plus, times, minus}
 use Rattle.curve_laws.specs.Points.{chord, tangent}
 use Rattle.curve_laws.specs.Valid.{Prime}
-use Rattle.curve_laws.proofs.Modular.{Same, settle}
+use Rattle.curve_laws.proofs.Modular.{Same, equal-below}
 use Rattle.curve_laws.proofs.Modulo.{none-minus}
 use Rattle.curve_laws.proofs.Field.{NonZero, positive, over-times, times-nonzero, below-nonzero}
 
 module _ {p : ℕ} (P : Prime p) where
   -- coordinates below p that differ have a difference
   pub distinct : {x x' : ℕ} → x < p → x' < p → (x ≡ x' → ⊥) → NonZero p (minus p x' x)
-  distinct l l' n z = n (sym (settle (none-minus (positive P) z) l' l))
+  distinct l l' n z = n (sym (equal-below (none-minus (positive P) z) l' l))
 
   pub chord-slope : (x y x' y' : ℕ) → NonZero p (minus p x' x) → Same p (times p (chord p x y x' y') (minus p x' x)) (minus p y' y)
   unfolding chord

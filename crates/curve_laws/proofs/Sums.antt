@@ -12,7 +12,7 @@ use borrow.Author.Tests.{eqb-true, eqb-false, eq-eqb, ne-eqb}
 use Rattle.curve_laws.specs.Modulo.{plus, minus}
 use Rattle.curve_laws.specs.Points.{Point, infinity, at, OnCurve, equation, third, thirdX, chord, tangent, double, add}
 use Rattle.curve_laws.specs.Valid.{Prime}
-use Rattle.curve_laws.proofs.Modular.{Same, same-eq, _then_, settle}
+use Rattle.curve_laws.proofs.Modular.{Same, same-eq, _then_, equal-below}
 use Rattle.curve_laws.proofs.Modulo.{none-minus}
 use Rattle.curve_laws.proofs.Ring.{var, num, _⊕_, _⊖_, _⊗_, none, _⊞_, _⊟_, _⊡_, gap, combined, follows}
 use Rattle.curve_laws.proofs.Field.{NonZero, positive, same?, zero-product, zero-factor, below-zero, below-nonzero}
@@ -84,11 +84,11 @@ module _ {p : ℕ} (P : Prime p) (odd : 2 < p) (a b : ℕ) where
 
   module _ (x y x' y' : ℕ) (on : OnCurve p a b (at x y)) (on' : OnCurve p a b (at x' y')) (apart : Opposite p x y x' y' → ⊥) where
     pub differing : Same p (minus p x' x) 0 → NonZero p (plus p y y')
-    differing z o = apart (sym (settle (none-minus h z) (on' .0) (on .0)), o)
+    differing z o = apart (sym (equal-below (none-minus h z) (on' .0) (on .0)), o)
 
     same-y : x ≡ x' → y ≡ y'
     same-y e =
-        ⊎-elim (λ z. settle (none-minus h z) (on .1) (on' .1)) (λ z. absurd (apart (e, z)))
+        ⊎-elim (λ z. equal-below (none-minus h z) (on .1) (on' .1)) (λ z. absurd (apart (e, z)))
         (same-or-opposite x y x' y' (on .2) (on' .2) e)
 
     y-nonzero : y ≡ y' → x ≡ x' → NonZero p y

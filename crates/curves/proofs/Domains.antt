@@ -1,5 +1,5 @@
--- A curve's limbs, checked by computed tests, and the multiple by the domain's numbers as the multiple on the curve.
-use mathlib.Core.Path.{_≡_, ap, _∙_}
+-- A curve's limbs, checked by computed tests, and the multiple by its numbers as the multiple on each curve that has them.
+use mathlib.Core.Path.{_≡_, sym, ap, subst, _∙_}
 use mathlib.Core.List.{List}
 use Prim.Native.Nat.{ℕ, _+_, _-_, _*_, _%_, _^_, _≤_, _<_}
 use native.Mathlib.Nat.{mod-lt}
@@ -10,13 +10,16 @@ use lib.Seq.{length-take-le}
 use Rattle.laws.specs.Bytes.{bigEndian, number}
 use Rattle.limbs.specs.Limbs.{value}
 use Rattle.field.specs.Montgomery.{Form}
-use Rattle.curve_laws.specs.Points.{Point, at, xOf, yOf}
-use Rattle.curve_laws.specs.Curves.{Curve, xTimesG}
-use Rattle.curve_laws.specs.Valid.{Valid}
-use Rattle.curve_laws.proofs.Jacobian.{binary, affineX}
-use Rattle.curve_laws.proofs.Scalar.{x-by-binary}
+use Rattle.curve_laws.specs.Modulo.{plus}
+use Rattle.curve_laws.specs.Points.{Point, at, xOf, OnCurve, discriminant, total}
+use Rattle.curve_laws.specs.Curves.{Curve, timesG, xTimesG}
+use Rattle.curve_laws.specs.Valid.{Prime, Valid}
+use Rattle.curve_laws.proofs.Modular.{Same}
+use Rattle.curve_laws.proofs.Field.{NonZero}
+use Rattle.curve_laws.proofs.Valid.{minus-three, discriminant-nonzero}
+use Rattle.points.specs.Multiple.{Through, SideOf}
 use Rattle.curves.specs.declared.Domain.{Domain}
-use Rattle.curves.specs.Base.{prime, order, baseX, baseY, Of, Usable, Binary, Multiple}
+use Rattle.curves.specs.Base.{prime, order, baseX, baseY, Of, Usable, Multiple}
 
 abbrev Formed : List ℕ → List ℕ → Type 0
 Formed m a = T (eqb (length a) 8) × T (eqb (length (take (length m) a)) (length m)) × T (ltb (value (take (length m) a)) (value m))
@@ -100,35 +103,46 @@ first k l h e = length-take-le k l (omega arith)
 -- r and x as limbs
 pub by-limbs : (d : Domain) → Usable d → (bytes r found : List ℕ)
     → value (take (length (take (d .span) (d .n))) r) ≡ number bytes % order d
-    → value (take (length (take (d .width) (d .p))) found)
-    ≡ affineX (prime d) (binary (prime d) (value (take (length (take (d .width) (d .p))) (d .x))) (value (take (length (take (d .width) (d .p))) (d .y))) (d .bits) (value (take (d .span) r)))
+    → SideOf (prime d) (value (take (length (take (d .width) (d .p))) (d .x))) (value (take (length (take (d .width) (d .p))) (d .y))) (d .bits) (value (take (d .span) r))
+    (value (take (length (take (d .width) (d .p))) found))
     → (value (take (d .span) r) ≡ number bytes % order d)
-    × (value (take (d .width) found) ≡ affineX (prime d) (binary (prime d) (baseX d) (baseY d) (d .bits) (number bytes % order d)))
+    × SideOf (prime d) (baseX d) (baseY d) (d .bits) (number bytes % order d) (value (take (d .width) found))
 by-limbs d u bytes r found e f =
     let of-n : length (take (d .span) (d .n)) ≡ d .span = first (d .span) (d .n) (u .span-narrow) (u .n-whole) in
     let of-p : length (take (d .width) (d .p)) ≡ d .width = first (d .width) (d .p) (u .narrow) (u .p-whole) in
     let scalar : value (take (d .span) r) ≡ number bytes % order d = rw of-n at e in
-    let side : value (take (d .width) found) ≡ affineX (prime d) (binary (prime d) (baseX d) (baseY d) (d .bits) (value (take (d .span) r))) = rw of-p at f in
-    (scalar, side ∙ ap (λ (k : ℕ). affineX (prime d) (binary (prime d) (baseX d) (baseY d) (d .bits) k)) scalar)
+    let side : SideOf (prime d) (baseX d) (baseY d) (d .bits) (value (take (d .span) r)) (value (take (d .width) found)) = rw of-p at f in
+    (scalar, rw scalar at side)
 
--- the x coordinate on the curve, for a number below its order
-side-of : (c : Curve) → Valid c → c .a + 3 ≡ c .p → (d : Domain) → Of c d → (r : ℕ) → r < c .n
-    → affineX (prime d) (binary (prime d) (baseX d) (baseY d) (d .bits) r) ≡ xTimesG c r
-unfolding xOf yOf
-side-of c valid three d of r l =
-    ap (λ (q : ℕ). affineX q (binary q (baseX d) (baseY d) (d .bits) r)) (of .p)
-    ∙ ap (λ (Q : Point). affineX (c .p) (binary (c .p) (xOf Q) (yOf Q) (d .bits) r)) (of .G)
-    ∙ x-by-binary c valid three (d .bits) r (omega (arith, of .bits))
+module _ (c : Curve) (valid : Valid c) (three : c .a + 3 ≡ c .p) (d : Domain) (of : Of c d) where
+  -- the curve goes through the base point of the domain
+  through : Through (prime d) (baseX d) (baseY d) (c .a) (c .b)
+  through =
+      record {
+        prime = subst (λ (q : ℕ). Prime q) (sym (of .p)) (valid .prime);
+        odd = omega (arith, of .p, valid .odd);
+        minus-three = subst (λ (q : ℕ). Same q (plus q (c .a) 3) 0) (sym (of .p)) (minus-three (c .a) three);
+        smooth =
+            subst (λ (q : ℕ). NonZero q (discriminant q (c .a) (c .b))) (sym (of .p))
+            (discriminant-nonzero (c .a) (c .b) (valid .prime) (valid .smooth));
+        on =
+            subst (λ (Q : Point). OnCurve (prime d) (c .a) (c .b) Q) (sym (of .G))
+            (subst (λ (q : ℕ). OnCurve q (c .a) (c .b) (c .G)) (sym (of .p)) (valid .base));
+      }
 
-pub on-curve : (c : Curve) → Valid c → c .a + 3 ≡ c .p → (d : Domain) → Of c d → 0 < order d → (bytes r x : List ℕ) (size : ℕ)
-    → Binary d bytes size r x → Multiple c bytes size r x
-on-curve c valid three d of some bytes r x size h =
-    let n = c .n in
-    let below : number bytes % c .n < c .n = mod-lt (number bytes) (omega (arith, of .n)) in
-    record {
-      scalar = h .scalar ∙ ap (λ (k : ℕ). bigEndian 32 (number bytes % k)) (of .n);
-      side =
-          h .side
-          ∙ ap (λ (k : ℕ). bigEndian size (affineX (prime d) (binary (prime d) (baseX d) (baseY d) (d .bits) (number bytes % k)))) (of .n)
-          ∙ ap (bigEndian size) (side-of c valid three d of (number bytes % c .n) below);
-    }
+  -- the x coordinate on the curve, for a number below its order
+  side-of : (r found : ℕ) → r < c .n → SideOf (prime d) (baseX d) (baseY d) (d .bits) r found → found ≡ xTimesG c r
+  unfolding xTimesG timesG
+  side-of r found l s =
+      s .side (c .a) (c .b) through (omega (arith, of .bits))
+      ∙ ap (λ (q : ℕ). xOf (total q (c .a) r (at (baseX d) (baseY d)))) (of .p)
+      ∙ ap (λ (Q : Point). xOf (total (c .p) (c .a) r Q)) (of .G)
+
+  pub on-curve : 0 < order d → (bytes r x : List ℕ) (size found : ℕ) → r ≡ bigEndian 32 (number bytes % order d) → x ≡ bigEndian size found
+      → SideOf (prime d) (baseX d) (baseY d) (d .bits) (number bytes % order d) found → Multiple c bytes size r x
+  on-curve some bytes r x size found e f s =
+      let below : number bytes % c .n < c .n = mod-lt (number bytes) (omega (arith, of .n)) in
+      record {
+        scalar = e ∙ ap (λ (k : ℕ). bigEndian 32 (number bytes % k)) (of .n);
+        side = f ∙ ap (bigEndian size) (side-of (number bytes % c .n) found below (rw (of .n) at s));
+      }

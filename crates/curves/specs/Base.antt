@@ -1,5 +1,5 @@
 -- What the code promises of a curve's base point, and what the limbs of a curve's parameters have to be.
-use Prim.Native.Nat.{ℕ, _-_, _%_, _^_, _≤_, _<_}
+use Prim.Native.Nat.{ℕ, _+_, _-_, _%_, _^_, _≤_, _<_}
 use mathlib.Core.Path.{_≡_}
 use mathlib.Core.List.{List}
 use lib.ListN.{length, take}
@@ -8,7 +8,7 @@ use Rattle.limbs.specs.Limbs.{value}
 use Rattle.field.specs.Montgomery.{Field, Form, Square}
 use Rattle.curve_laws.specs.Points.{at}
 use Rattle.curve_laws.specs.Curves.{Curve, xTimesG}
-use Rattle.curve_laws.proofs.Jacobian.{binary, affineX}
+use Rattle.curve_laws.specs.Valid.{Valid}
 use Rattle.curves.specs.declared.Domain.{Domain}
 
 -- The multiple by a number: r is the number modulo n, in 32 bytes, and x is the x coordinate of r times G, in so many bytes
@@ -50,7 +50,6 @@ pub record Usable (d : Domain) : Type 0 where
   pub span-narrow : d .span ≤ 8
   pub order-some : 0 < order d
 
--- The same multiple by the domain's numbers, by the binary method
-pub record Binary (d : Domain) (bytes : List ℕ) (size : ℕ) (r x : List ℕ) : Type 0 where
-  pub scalar : r ≡ bigEndian 32 (number bytes % order d)
-  pub side : x ≡ bigEndian size (affineX (prime d) (binary (prime d) (baseX d) (baseY d) (d .bits) (number bytes % order d)))
+-- The multiple on every curve that has these numbers and a = p - 3
+abbrev pub OnItsCurves : Domain → List ℕ → ℕ → List ℕ → List ℕ → Type 0
+OnItsCurves d bytes size r x = (c : Curve) → Valid c → c .a + 3 ≡ c .p → Of c d → Multiple c bytes size r x

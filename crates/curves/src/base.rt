@@ -11,9 +11,9 @@ ghost use Prim.Native.Nat.{_-_, _%_, _≤_, _<_};
 ghost use lib.ListN.{length, take};
 ghost use Rattle.laws.specs.Bytes as octets;
 ghost use Rattle.limbs.specs.Limbs.{value};
-ghost use Rattle.curve_laws.proofs.Jacobian.{binary, affineX};
 ghost use Rattle.field.specs.Montgomery.{Field, Form, Square};
-ghost use Rattle.curves.specs.Base.{Usable, Binary};
+ghost use Rattle.points.specs.Multiple.{SideOf};
+ghost use Rattle.curves.specs.Base.{Usable, OnItsCurves};
 
 // The x coordinate of the multiple of (x, y) by the lowest bits of r
 fn multiple_x(
@@ -27,7 +27,7 @@ fn multiple_x(
     inv: u32,
 ) -> [u32; 8]
     requires { ⌜ Field (now m) inv × Form (now m) x × Form (now m) y × Square (now m) square × (length (now e) ≤ 8) × (value (now e) ≡ value (now m) - 2) ⌝ }
-    ensures { λ found. ⌜ Form (now (m .entry)) found × (value (take (length (now (m .entry))) found) ≡ affineX (value (now (m .entry))) (binary (value (now (m .entry))) (value (take (length (now (m .entry))) x)) (value (take (length (now (m .entry))) y)) bits (value (now (r .entry))))) ⌝ }
+    ensures { λ found. ⌜ Form (now (m .entry)) found × SideOf (value (now (m .entry))) (value (take (length (now (m .entry))) x)) (value (take (length (now (m .entry))) y)) bits (value (now (r .entry))) (value (take (length (now (m .entry))) found)) ⌝ }
 {
     let one = into([1u32, 0, 0, 0, 0, 0, 0, 0], square, m, inv);
     let bx = into(x, square, m, inv);
@@ -50,7 +50,7 @@ fn scalar(number: [u8; 32], n: &[u32]) -> [u32; 8]
 // The number modulo n as r, and the x coordinate of r times the base point, as many bytes of it as x has room for
 pub fn times_base(d: Domain, number: [u8; 32], x: &mut [u8]) -> [u8; 32]
     requires { ⌜ Usable d ⌝ }
-    ensures { λ r. ⌜ Binary d number (length (now (x .entry))) r (now (x .exit)) ⌝ }
+    ensures { λ r. ⌜ OnItsCurves d number (length (now (x .entry))) r (now (x .exit)) ⌝ }
 {
     let w = d.width;
     let k = d.span;

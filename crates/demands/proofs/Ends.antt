@@ -19,7 +19,7 @@ use Rattle.unit.specs.WellFormed.{settingsLegal, wellFormed}
 use Rattle.unit.specs.Change.{spent, noUnit}
 use Rattle.unit.specs.Outcome.{Outcome, giving, refusing, formed, answering}
 use Rattle.unit.proofs.Lines.{lines}
-use Rattle.authentication.specs.Judgement.{Judgement, accepts, rejects, under, settled}
+use Rattle.authentication.specs.Judgement.{Judgement, accepts, rejects, under, concluded}
 use Rattle.provisioning.specs.Provisioning.{readParameters, readState, setKey, clearKey, recoverKey}
 use Rattle.ringing.specs.Ringing.{ring, rung, readSound}
 use Rattle.ringing.specs.Protecting.{protect, unprotect}
@@ -112,7 +112,7 @@ module _ {u : TagUnit} (before : List ℕ) where
   plain-ended (answered answer e) = withAnswer answer e
   plain-ended (refused n p e k) = refusedSame n p e k (rw e)
 
-  fair-ended : {j : Judgement} → Fair j → Ended u (settled (spent u) j) before
+  fair-ended : {j : Judgement} → Fair j → Ended u (concluded (spent u) j) before
   unfolding lentAfter
   fair-ended (accepted {answer = answer}) = withAnswer answer refl
   fair-ended (rejected {n = n} s) = refusedSpent n s refl refl refl

@@ -13,7 +13,7 @@ use Rattle.unit.specs.declared.Nonce.{Nonce}
 use Rattle.unit.specs.Change.{fresh}
 use Rattle.tag.specs.Calls.{Written, read, write, Act, calls}
 use Rattle.demands.specs.History.{step, after}
-use Rattle.demands.specs.Nonces.{Succeeds, Passes, Issues, issues, Quiet, Issue, Demand2Nonces}
+use Rattle.demands.specs.Nonces.{Succeeds, PassesGuards, Issues, issues, Quiet, Issue, Demand2Nonces}
 use Rattle.demands.proofs.Ruled.{accepted-write}
 use Rattle.demands.proofs.Noncing.{issued, Noncing, issue, spend, keep, noncing}
 use Rattle.demands.proofs.Histories.{after-append}
@@ -52,7 +52,7 @@ source [] u l = inr (l, tt)
 source (c ∷ h) u l = before-call c u h (noncing c u) (source h (step c u .unit) l)
 
 -- A quiet history keeps the nonce
-quiet-call : (c : Act) (u : TagUnit) → Noncing c u → (Issues c u → ⊥) → (Passes c u → ⊥) → step c u .unit .nonce ≡ u .nonce
+quiet-call : (c : Act) (u : TagUnit) → Noncing c u → (Issues c u → ⊥) → (PassesGuards c u → ⊥) → step c u .unit .nonce ≡ u .nonce
 quiet-call c u (issue s e) i p = absurd (i (issues s))
 quiet-call c u (spend s e) i p = absurd (p s)
 quiet-call c u (keep j q e) i p = e
@@ -76,7 +76,7 @@ issue-holds u h nonce i =
     ∙ quiet-keeps (i .later) (step (calls (read nonce) (i .room)) then .unit) (i .quiet)
     ∙ read-issues (noncing (calls (read nonce) (i .room)) then) (i .succeeded)
 
-write-spends : {w : Written} {room : ℕ} {u : TagUnit} → Noncing (calls (write w) room) u → Passes (calls (write w) room) u
+write-spends : {w : Written} {room : ℕ} {u : TagUnit} → Noncing (calls (write w) room) u → PassesGuards (calls (write w) room) u
     → step (calls (write w) room) u .unit .nonce .live ≡ false
 write-spends (spend s e) p = e
 write-spends (keep i q e) p = absurd (q p)

@@ -20,7 +20,7 @@ use Rattle.provisioning.specs.Provisioning.{cleared}
 use Rattle.tag.specs.Own.{nonceFits, issuing}
 use Rattle.tag.specs.Calls.{Written, read, write, accountKey, own, Act, calls}
 use Rattle.demands.specs.History.{step}
-use Rattle.demands.specs.Nonces.{Succeeds, Passes, passes, Issues, issues}
+use Rattle.demands.specs.Nonces.{Succeeds, PassesGuards, passes, Issues, issues}
 use Rattle.demands.proofs.Guards.{roomFor, ownOf, met, Met, barred, passed, not-both}
 use Rattle.demands.proofs.Ruled.{Did, set, clear, recovered, other, Ended, turned, served, ends-written}
 use Rattle.demands.proofs.Beside.{kind, Sorted, aRead, aWrite, aKey, aside, sorted, Keeping, same, more, keeps}
@@ -31,20 +31,20 @@ issued nonce = record { held = true; live = true; bytes = nonce }
 pub data Noncing : Act → TagUnit → Type 0 where
   issue : {nonce : List ℕ} {room : ℕ} {u : TagUnit} → Succeeds (calls (read nonce) room) u → step (calls (read nonce) room) u .unit .nonce ≡ issued nonce
       → Noncing (calls (read nonce) room) u
-  spend : {w : Written} {room : ℕ} {u : TagUnit} → Passes (calls (write w) room) u → step (calls (write w) room) u .unit .nonce .live ≡ false
+  spend : {w : Written} {room : ℕ} {u : TagUnit} → PassesGuards (calls (write w) room) u → step (calls (write w) room) u .unit .nonce .live ≡ false
       → Noncing (calls (write w) room) u
-  keep : {c : Act} {u : TagUnit} → (Issues c u → ⊥) → (Passes c u → ⊥) → step c u .unit .nonce ≡ u .nonce → Noncing c u
+  keep : {c : Act} {u : TagUnit} → (Issues c u → ⊥) → (PassesGuards c u → ⊥) → step c u .unit .nonce ≡ u .nonce → Noncing c u
 
 issues-succeeds : {c : Act} {u : TagUnit} → Issues c u → Succeeds c u
 issues-succeeds (issues s) = s
 
-passes-guards : {c : Act} {u : TagUnit} → Passes c u → (answerRoom ≤ roomFor c) × (wellFormed u ≡ true)
+passes-guards : {c : Act} {u : TagUnit} → PassesGuards c u → (answerRoom ≤ roomFor c) × (wellFormed u ≡ true)
 passes-guards (passes fits formed) = (fits, formed)
 
 issues-kind : {c : Act} {u : TagUnit} → Issues c u → kind c ≡ 0
 issues-kind (issues s) = refl
 
-passes-kind : {c : Act} {u : TagUnit} → Passes c u → kind c ≡ 1
+passes-kind : {c : Act} {u : TagUnit} → PassesGuards c u → kind c ≡ 1
 passes-kind (passes fits formed) = refl
 
 -- A call that is barred leaves the nonce
@@ -74,7 +74,7 @@ untouched c u t kept = go (met c u)
     go : Met c u → Noncing c u
     go (barred n e bars) = barred-keeps c u n e bars
     go (passed fits formed e) =
-        keep (λ (i : Issues c u). omega (arith, issues-kind i)) (λ (p : Passes c u). omega (arith, passes-kind p)) (ap (λ (o : Outcome). o .unit .nonce) e ∙ kept)
+        keep (λ (i : Issues c u). omega (arith, issues-kind i)) (λ (p : PassesGuards c u). omega (arith, passes-kind p)) (ap (λ (o : Outcome). o .unit .nonce) e ∙ kept)
 
 reading : (nonce : List ℕ) (room : ℕ) (u : TagUnit) → Noncing (calls (read nonce) room) u
 unfolding issuing own
@@ -89,7 +89,7 @@ reading nonce room u = go (met (calls (read nonce) room) u)
         issue (version ∷ nonce, ap (λ (o : Outcome). o .result) given) (ap (λ (o : Outcome). o .unit .nonce) given)
     fits-or-not (inr f) e =
         let refusal : step c u ≡ refusing 3 u = e ∙ rw f in
-        keep (λ i. not-both c u refusal (issues-succeeds i)) (λ (p : Passes c u). omega (arith, passes-kind p)) (ap (λ (o : Outcome). o .unit .nonce) refusal)
+        keep (λ i. not-both c u refusal (issues-succeeds i)) (λ (p : PassesGuards c u). omega (arith, passes-kind p)) (ap (λ (o : Outcome). o .unit .nonce) refusal)
 
     go : Met c u → Noncing c u
     go (barred n e bars) = barred-keeps c u n e bars

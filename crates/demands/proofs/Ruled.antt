@@ -18,7 +18,7 @@ use Rattle.unit.specs.declared.Owner.{Owner}
 use Rattle.unit.specs.WellFormed.{wellFormed, ownerKey}
 use Rattle.unit.specs.Change.{spent}
 use Rattle.unit.specs.Outcome.{Outcome, giving, refusing}
-use Rattle.authentication.specs.Judgement.{Judgement, accepts, rejects, answered, under, usedKey, signedByOwner, tagged, proves, lastNonce, settled}
+use Rattle.authentication.specs.Judgement.{Judgement, accepts, rejects, answered, under, usedKey, signedByOwner, tagged, proves, lastNonce, concluded}
 use Rattle.provisioning.specs.Provisioning.{readParameters, readState, setKey, mayReplace, rekeyed, clearKey, cleared, recoverKey, claimed}
 use Rattle.ringing.specs.Ringing.{skips, ringLegal, ringMask, ring, rung, readSound}
 use Rattle.ringing.specs.Protecting.{flagOf, protect, unprotect}
@@ -158,21 +158,21 @@ pub data Ended (u : TagUnit) (w : List ℕ) : Outcome → Type 0 where
       → Ended u w (giving answer v)
 
 module _ (u : TagUnit) (w : List ℕ) where
-  settled-so : {j : Judgement} → shapeLegal w ≡ true → u .nonce .live ≡ true → Did (spent u) (parsed w) j → Ended u w (settled (spent u) j)
-  settled-so s l (refused n) = turned n
-  settled-so s l (set key e o) = served s l (set key e o)
-  settled-so s l (clear e) = served s l (clear e)
-  settled-so s l (recovered key e o) = served s l (recovered key e o)
-  settled-so s l (other k a) = served s l (other k a)
+  concluded-so : {j : Judgement} → shapeLegal w ≡ true → u .nonce .live ≡ true → Did (spent u) (parsed w) j → Ended u w (concluded (spent u) j)
+  concluded-so s l (refused n) = turned n
+  concluded-so s l (set key e o) = served s l (set key e o)
+  concluded-so s l (clear e) = served s l (clear e)
+  concluded-so s l (recovered key e o) = served s l (recovered key e o)
+  concluded-so s l (other k a) = served s l (other k a)
 
   pub ends-written : Ended u w (written u w)
   unfolding written judged
   ends-written =
-      let P : Judgement → Type 0 = λ j. Ended u w (settled (spent u) j) in
+      let P : Judgement → Type 0 = λ j. Ended u w (concluded (spent u) j) in
       choose P (shapeLegal w)
       (λ s.
       choose P (u .nonce .live)
-      (λ l. choose P (keyThere u (parsed w)) (λ k. settled-so s l (by-id (spent u) (parsed w))) (λ k. turned 0x80))
+      (λ l. choose P (keyThere u (parsed w)) (λ k. concluded-so s l (by-id (spent u) (parsed w))) (λ k. turned 0x80))
       (λ l. turned 0x80))
       (λ s. turned 0x81)
 

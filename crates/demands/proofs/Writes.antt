@@ -22,7 +22,7 @@ use Rattle.unit.specs.WellFormed.{wellFormed, heldKeys, rowOf, ownerKey, owned}
 use Rattle.unit.specs.Change.{spent, withAccounts}
 use Rattle.unit.proofs.Lines.{RingLines, VolumeLines, lines, held-count, settings-legal}
 use Rattle.unit.proofs.Kept.{fresh-formed, clock-kept, battery-kept, pairing-kept, nonce-kept, spent-kept, owner-kept, identity-kept, silenced-kept, ring-kept, protection-kept, unlent-kept}
-use Rattle.authentication.specs.Judgement.{Judgement, accepts, rejects, lastNonce, tagged, usedKey, onlyIf, signedByOwner, under, settled}
+use Rattle.authentication.specs.Judgement.{Judgement, accepts, rejects, lastNonce, tagged, usedKey, onlyIf, signedByOwner, under, concluded}
 use Rattle.provisioning.specs.Provisioning.{readParameters, readState, setKey, clearKey, recoverKey, claimed, rekeyed, cleared}
 use Rattle.ringing.specs.Ringing.{ring, rung, readSound, skips, ringLegal, ringMask, allOfNone, askedVolume, askedTimeout, heldVolume}
 use Rattle.ringing.specs.Protecting.{protect, unprotect}
@@ -182,14 +182,14 @@ by-id-forms u w q k =
     tested Forms (eqb (q .id) 0x07) (λ e. protect-forms u w q (key-there u q 0x07 k (omega arith) e))
     (λ n. tested Forms (eqb (q .id) 0x08) (λ e. unprotect-forms u w q) (λ n. rejected)))))))))
 
-settled-formed : (u : TagUnit) → wellFormed u ≡ true → (j : Judgement) → Forms j → wellFormed (settled u j .unit) ≡ true
-settled-formed u w j (accepted h) = h
-settled-formed u w j rejected = w
+concluded-formed : (u : TagUnit) → wellFormed u ≡ true → (j : Judgement) → Forms j → wellFormed (concluded u j .unit) ≡ true
+concluded-formed u w j (accepted h) = h
+concluded-formed u w j rejected = w
 
 pub written-kept : (u : TagUnit) → wellFormed u ≡ true → (b : List ℕ) → wellFormed (written u b .unit) ≡ true
 unfolding written judged
 written-kept u w b =
-    settled-formed (spent u) (spent-kept u w) (judged u b)
+    concluded-formed (spent u) (spent-kept u w) (judged u b)
     (tested Forms (shapeLegal b)
     (λ s.
     tested Forms (u .nonce .live)

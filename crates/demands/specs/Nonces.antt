@@ -21,8 +21,8 @@ abbrev pub Succeeds : Act → TagUnit → Type 0
 Succeeds a u = (answer : List ℕ) × (step a u .result ≡ gives answer)
 
 -- a write that passed 6 and 2: there was room, and the unit was well formed
-pub data Passes : Act → TagUnit → Type 0 where
-  passes : {w : Written} {room : ℕ} {u : TagUnit} → answerRoom ≤ room → wellFormed u ≡ true → Passes (calls (write w) room) u
+pub data PassesGuards : Act → TagUnit → Type 0 where
+  passes : {w : Written} {room : ℕ} {u : TagUnit} → answerRoom ≤ room → wellFormed u ≡ true → PassesGuards (calls (write w) room) u
 
 -- a successful read
 pub data Issues : Act → TagUnit → Type 0 where
@@ -31,7 +31,7 @@ pub data Issues : Act → TagUnit → Type 0 where
 -- no successful read and no write that passed 6 and 2 among these acts
 abbrev pub Quiet : List Act → TagUnit → Type 0
 Quiet [] u = Unit {0}
-Quiet (a ∷ l) u = (Issues a u → ⊥) × (Passes a u → ⊥) × Quiet l (step a u .unit)
+Quiet (a ∷ l) u = (Issues a u → ⊥) × (PassesGuards a u → ⊥) × Quiet l (step a u .unit)
 
 -- the history h, from the unit u, has a successful read of this nonce, and is quiet after it
 pub record Issue (u : TagUnit) (h : List Act) (nonce : List ℕ) : Type 0 where
@@ -52,6 +52,6 @@ pub record Demand2Nonces : Type 0 where
       → Succeeds (calls (write w) room) (after h (fresh s))
       → (nonce : List ℕ) × Issue (fresh s) h nonce × (lastNonce (after h (fresh s)) ≡ nonce)
   pub once : (s : Settings) (h : List Act) (w : Written) (room : ℕ)
-      → Passes (calls (write w) room) (after h (fresh s))
+      → PassesGuards (calls (write w) room) (after h (fresh s))
       → after (h ++ (calls (write w) room ∷ [])) (fresh s) .nonce .live ≡ true
       → ⊥

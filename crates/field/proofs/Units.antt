@@ -8,7 +8,7 @@ use lib.ListN.{length, getD, drop}
 use Rattle.limbs.specs.Limbs.{value, Modulus}
 use Rattle.limbs.proofs.Limbs.{value-drop}
 use Rattle.curve_laws.specs.Modulo.{plus, times, minus}
-use Rattle.curve_laws.proofs.Modular.{Same, same, same-eq, back, _then_, rest-of, drops, settle, sums, products, powers}
+use Rattle.curve_laws.proofs.Modular.{Same, same, same-eq, back, _then_, rest-of, drops, equal-below, sums, products, powers}
 use Rattle.curve_laws.proofs.Powers.{one-power}
 use Rattle.curve_laws.proofs.Modulo.{minus-same, minus-below}
 use Rattle.field.specs.Montgomery.{shrink}
@@ -70,7 +70,7 @@ module _ (p r u : ℕ) (h : 0 < p) (unit : Same p (r * u) 1) where
       let x : ℕ = a * u % p in
       let y : ℕ = b * u % p in
       let parts : (a + q * b) * u ≡ a * u + q * (b * u) = omega arith in
-      settle
+      equal-below
       (rest-of p (t * u)
       then products (same-eq (is-minus a b t l e) then minus-same h a b) (same u)
       then same-eq parts
@@ -85,7 +85,7 @@ module _ (p r u : ℕ) (h : 0 < p) (unit : Same p (r * u) 1) where
       let parts : a * (r * u) ≡ a * u * r = omega arith in
       let none : 0 * r ≡ 0 = omega arith in
       let s : Same p (a * u) 0 = record { rest = e ∙ sym (zero-mod p) } in
-      settle (same-eq one then products (same a) (back unit) then same-eq parts then products s (same r) then same-eq none) l h
+      equal-below (same-eq one then products (same a) (back unit) then same-eq parts then products s (same r) then same-eq none) l h
 
   -- the power squared takes a number into its form
   pub holds-into : (a s t : ℕ) → a < p → s ≡ r * r % p → t ≡ times p (a * u % p) (s * u % p) → t ≡ a
@@ -93,7 +93,7 @@ module _ (p r u : ℕ) (h : 0 < p) (unit : Same p (r * u) 1) where
   holds-into a s t l e f =
       let parts : a * u * (r * r * u) ≡ a * (r * u) * (r * u) = omega arith in
       let one : a * 1 * 1 ≡ a = omega arith in
-      settle
+      equal-below
       (same-eq f
       then rest-of p (a * u % p * (s * u % p))
       then products (rest-of p (a * u)) (rest-of p (s * u) then products (same-eq e then rest-of p (r * r)) (same u))
@@ -111,7 +111,7 @@ module _ (p r u : ℕ) (h : 0 < p) (unit : Same p (r * u) 1) where
       let parts : a * u * (1 * u) * r ≡ a * u * (r * u) = omega arith in
       let last : a * u * 1 ≡ a * u = omega arith in
       let s : Same p (t * u) (a * u % p * (1 * u % p)) = record { rest = e } in
-      settle
+      equal-below
       (same-eq one
       then products (same t) (back unit)
       then same-eq first

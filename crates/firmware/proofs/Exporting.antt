@@ -15,19 +15,19 @@ use Rattle.laws.proofs.Flags.{true-or-false, clash}
 use Rattle.sizes.specs.Sizes.{answerRoom, accountKeySize, identifierSize, mostKeys, highestBattery}
 use Rattle.tables.specs.Rows.{among}
 use Rattle.primitives.specs.declared.Ending.{Ending}
-use Rattle.primitives.specs.Calls.{orRefusal, number as endNumber, numberOf, Answers as Digests}
+use Rattle.primitives.specs.Calls.{orRefusal, endNumber, numberOf, Ends as Digests}
 use Rattle.unit.specs.declared.TagUnit.{TagUnit}
 use Rattle.unit.specs.declared.Sound.{Sound}
 use Rattle.unit.specs.declared.Reply.{Reply}
 use Rattle.unit.specs.declared.Reply.the-variants.{Done, Refused}
 use Rattle.unit.specs.declared.Refusal.{Refusal}
 use Rattle.unit.specs.declared.Refusal.the-variants.{NotAuthenticated, InvalidValue, NoConsent, OutOfRange, NotWellFormed, WrongNonce, WrongAccountKey, NoFrame, NoRoom}
-use Rattle.unit.specs.Refusals.{End, number, endOf, ending}
+use Rattle.unit.specs.Refusals.{End, refusalNumber, endOf, ending}
 use Rattle.unit.specs.Standing.{stands}
 use Rattle.unit.specs.Change.{spent}
 use Rattle.unit.specs.WellFormed.{wellFormed, settingsLegal, heldKeys}
-use Rattle.unit.specs.Outcome.{Outcome, refusing, formed, answering, Settles, Answers}
-use Rattle.authentication.specs.Judgement.{Judgement, accepts, rejects, settled}
+use Rattle.unit.specs.Outcome.{Outcome, refusing, formed, answering, Completes, Answers}
+use Rattle.authentication.specs.Judgement.{Judgement, accepts, rejects, concluded}
 use Rattle.requests.specs.Write.{written, judged}
 use Rattle.time.specs.Time.{tenths}
 use Rattle.time.specs.Passing.{Passes}
@@ -91,9 +91,9 @@ unfolding newUnit
 new-untimed power components selectable =
     either (settingsLegal (record { power = power; components = components; selectable = selectable })) untimed untimed
 
-settled-untimed : (u : TagUnit) (j : Judgement) → Untimed (settled u j)
-settled-untimed u (accepts after answer) = untimed
-settled-untimed u (rejects n) = untimed
+concluded-untimed : (u : TagUnit) (j : Judgement) → Untimed (concluded u j)
+concluded-untimed u (accepts after answer) = untimed
+concluded-untimed u (rejects n) = untimed
 
 pressed-untimed : (s : Sound) (u : TagUnit) → Untimed (pressed s u)
 unfolding pressed
@@ -103,7 +103,7 @@ pressed-untimed (Sound.Ringing mask volume left) u = untimed
 own-untimed : (c : Call) (u : TagUnit) → Untimed (own c u)
 unfolding own issuing written charged keeping lending showing
 own-untimed (read nonce) u = either (nonceFits u nonce) untimed untimed
-own-untimed (write w) u = settled-untimed (spent u) (judged u (w .bytes))
+own-untimed (write w) u = concluded-untimed (spent u) (judged u (w .bytes))
 own-untimed button u = pressed-untimed (u .sound) u
 own-untimed (pairing on) u = untimed
 own-untimed (battery level) u = either (leb level highestBattery) untimed untimed
@@ -148,7 +148,7 @@ module _ (o : Outcome) (reply : Reply) {unit : TagUnit} {result : ℕ} {before a
       ∙ ap (λ (x : TagUnit). cond (writesBack (ending (o .result))) (encoded x) before) u ∙ kept-bytes o (o .result) before
 
 module _ {o : Outcome} {reply : Reply} {unit : TagUnit} {result : ℕ} {before after : List ℕ} where
-  pub exported : Settles o unit reply → Untimed o → Finishes unit (endOf reply) result before after → Exports o result before after
+  pub exported : Completes o unit reply → Untimed o → Finishes unit (endOf reply) result before after → Exports o result before after
   unfolding code
   exported s t f =
       record {
@@ -168,12 +168,12 @@ module _ {o : Outcome} {reply : Reply} {unit : TagUnit} {result : ℕ} {before a
 
 -- and so for every call on the unit that bytes mean
 module _ (c : Call) (room : ℕ) (b : List ℕ) {u unit : TagUnit} {reply : Reply} (read : u ≡ decoded b) where
-  pub settles-whole : Settles (call c room u) unit reply → writesBack (endOf reply) ≡ true → length b ≡ recordSize
-  settles-whole s = back-whole (call c room (decoded b)) b reply (call-whole b c room) (rw read at (s .endIs))
+  pub completes-whole : Completes (call c room u) unit reply → writesBack (endOf reply) ≡ true → length b ≡ recordSize
+  completes-whole s = back-whole (call c room (decoded b)) b reply (call-whole b c room) (rw read at (s .endIs))
 
-  pub settles-exports : {result : ℕ} {after : List ℕ} → Settles (call c room u) unit reply → Finishes unit (endOf reply) result b after
+  pub completes-exports : {result : ℕ} {after : List ℕ} → Completes (call c room u) unit reply → Finishes unit (endOf reply) result b after
       → Exports (call c room (decoded b)) result b after
-  settles-exports s f = exported (rw read at s) (call-untimed c room (decoded b)) f
+  completes-exports s f = exported (rw read at s) (call-untimed c room (decoded b)) f
 
   module _ {lent given : List ℕ} where
     pub answers-whole : Answers (call c room u) unit reply lent given → writesBack (endOf reply) ≡ true → length b ≡ recordSize
@@ -203,7 +203,7 @@ module _ (n room : ℕ) (b : List ℕ) {u unit : TagUnit} {reply : Reply} {ended
       }
 
 -- the number of a call's end is small: an answer is no longer than the lent bytes, and the refusals' numbers are
-number-small : (r : Refusal) → number r < 256
+number-small : (r : Refusal) → refusalNumber r < 256
 number-small NotAuthenticated = omega arith
 number-small InvalidValue = omega arith
 number-small NoConsent = omega arith

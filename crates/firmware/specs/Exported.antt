@@ -6,7 +6,7 @@ use mathlib.Core.List.{List}
 use lib.Dec.{eqb}
 use lib.ListN.{length}
 use Rattle.laws.specs.Answer.{Result, gives, refuses, lentAfter}
-use Rattle.primitives.specs.Calls.{number}
+use Rattle.primitives.specs.Calls.{endNumber}
 use Rattle.primitives.specs.declared.Ending.{Ending}
 use Rattle.unit.specs.declared.TagUnit.{TagUnit}
 use Rattle.unit.specs.Refusals.{End, wrote, refused}
@@ -76,4 +76,4 @@ pub record Finishes (unit : TagUnit) (end : End) (result : ℕ) (before after : 
 -- the number of a primitive's end, whose answer has `size` bytes
 abbrev pub digestCode : ℕ → Ending → ℕ
 digestCode size Ending.Done = size
-digestCode size Ending.WrongSize = refusalBase + number Ending.WrongSize
+digestCode size Ending.WrongSize = refusalBase + endNumber Ending.WrongSize

@@ -32,7 +32,7 @@ pub fn finish(bytes: &mut [u8], u: TagUnit, reply: Reply) -> u64
             count as u64
         }
         Reply::Refused(refusal) => {
-            let n = end::number(refusal) as u64;
+            let n = end::refusal_number(refusal) as u64;
             if spends(n) {
                 stored::encode(bytes, u);
                 return REFUSAL_BASE + n;

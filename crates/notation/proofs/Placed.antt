@@ -7,7 +7,7 @@ use native.Mathlib.Numerals.{add-one}
 use native.Mathlib.Omega.{arith}
 use lib.ListN.{length, take, drop, set, getD, length-append, length-drop, take-append-drop}
 use lib.Seq.{length-take-le, drop-cons, drop-drop, set-at, take-at, drop-at}
-use Rattle.notation.specs.Written.{placed, Puts}
+use Rattle.notation.specs.Written.{placed, PutsText}
 
 module _ (at : ℕ) (before : List ℕ) where
   pub placed-none : placed at [] before ≡ before
@@ -50,8 +50,8 @@ module _ (at : ℕ) (before : List ℕ) where
       ∙ rw (append-assoc, append-assoc, length-append, ← add-assoc, add-one))
 
 -- a text after another is the joined text
-pub puts-then : {a b before middle after : List ℕ} {at next end : ℕ} → Puts a at before next middle → Puts b next middle end after
-    → at + length a ≤ length before → Puts (a ++ b) at before end after
+pub puts-then : {a b before middle after : List ℕ} {at next end : ℕ} → PutsText a at before next middle → PutsText b next middle end after
+    → at + length a ≤ length before → PutsText (a ++ b) at before end after
 puts-then {a} {b} {before} {middle} {after} {at} {next} {end} p q fits =
     record {
       nextIs = rw (length-append, ← add-assoc, ← p .nextIs) (q .nextIs);
@@ -63,11 +63,11 @@ unfolding placed
 placed-first text before = rw zero-add
 
 -- a text between two others
-pub puts-around : {a b c before one two after : List ℕ} {at n m end : ℕ} → Puts a at before n one → Puts b n one m two → Puts c m two end after
-    → at + length a + length b ≤ length before → Puts (a ++ (b ++ c)) at before end after
+pub puts-around : {a b c before one two after : List ℕ} {at n m end : ℕ} → PutsText a at before n one → PutsText b n one m two → PutsText c m two end after
+    → at + length a + length b ≤ length before → PutsText (a ++ (b ++ c)) at before end after
 puts-around {a} {b} {c} {before} {one} {two} {after} {at} {n} {m} {end} p q r fits =
     let size : length (a ++ b) ≡ length a + length b = length-append a b in
     rw (← append-assoc) (puts-then (puts-then p q (omega arith)) r (omega arith))
 
-pub puts-nothing : (at : ℕ) (before : List ℕ) → Puts [] at before at before
+pub puts-nothing : (at : ℕ) (before : List ℕ) → PutsText [] at before at before
 puts-nothing at before = record { nextIs = omega arith; bytesAre = sym (placed-none at before) }

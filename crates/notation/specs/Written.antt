@@ -9,6 +9,6 @@ unfoldable pub placed : ℕ → List ℕ → List ℕ → List ℕ
 placed at text before = take at before ++ (text ++ drop (at + length text) before)
 
 -- a text is written at a place; the next place, and the bytes after
-pub record Puts (text : List ℕ) (at : ℕ) (before : List ℕ) (next : ℕ) (after : List ℕ) : Type 0 where
+pub record PutsText (text : List ℕ) (at : ℕ) (before : List ℕ) (next : ℕ) (after : List ℕ) : Type 0 where
   pub nextIs : next ≡ at + length text
   pub bytesAre : after ≡ placed at text before

@@ -4,12 +4,12 @@ ghost use mathlib.Core.List.{[], _∷_, _++_};
 ghost use Prim.Native.Nat.{_+_, _*_, _≤_, _<_};
 ghost use lib.ListN.{length};
 ghost use Rattle.notation.specs.Text.{decimal as decimalOf, hex as hexOf, hexDigit, newline};
-ghost use Rattle.notation.specs.Written.{Puts};
+ghost use Rattle.notation.specs.Written.{PutsText};
 
 // Bytes as they are.
 pub fn put(out: &mut [u8], at: usize, bytes: &[u8]) -> usize
     requires { ⌜ at + length (now bytes) ≤ length (now out) ⌝ }
-    ensures { λ r. ⌜ Puts (now (bytes .entry)) at (now (out .entry)) r (now (out .exit)) ⌝ }
+    ensures { λ r. ⌜ PutsText (now (bytes .entry)) at (now (out .entry)) r (now (out .exit)) ⌝ }
 {
     octets::put(out, at, bytes);
     at + bytes.len()
@@ -26,7 +26,7 @@ fn digit(d: u8) -> u8
 // Bytes in hexadecimal, two digits each.
 fn hex(out: &mut [u8], at: usize, bytes: &[u8]) -> usize
     requires { ⌜ at + 2 * length (now bytes) ≤ length (now out) ⌝ }
-    ensures { λ r. ⌜ Puts (hexOf (now (bytes .entry))) at (now (out .entry)) r (now (out .exit)) ⌝ }
+    ensures { λ r. ⌜ PutsText (hexOf (now (bytes .entry))) at (now (out .entry)) r (now (out .exit)) ⌝ }
 {
     let mut next = at;
     let mut i = 0;
@@ -43,7 +43,7 @@ fn hex(out: &mut [u8], at: usize, bytes: &[u8]) -> usize
 // A key, bytes in hexadecimal and a newline.
 pub fn hex_line(out: &mut [u8], at: usize, key: &[u8], bytes: &[u8]) -> usize
     requires { ⌜ at + (length (now key) + (2 * length (now bytes) + 1)) ≤ length (now out) ⌝ }
-    ensures { λ r. ⌜ Puts (now (key .entry) ++ (hexOf (now (bytes .entry)) ++ (newline ∷ []))) at (now (out .entry)) r (now (out .exit)) ⌝ }
+    ensures { λ r. ⌜ PutsText (now (key .entry) ++ (hexOf (now (bytes .entry)) ++ (newline ∷ []))) at (now (out .entry)) r (now (out .exit)) ⌝ }
 {
     let next = put(out, at, key);
     let end = hex(out, next, bytes);
@@ -53,7 +53,7 @@ pub fn hex_line(out: &mut [u8], at: usize, key: &[u8], bytes: &[u8]) -> usize
 // A key, a number in decimal and a newline.
 pub fn decimal_line(out: &mut [u8], at: usize, key: &[u8], n: u32) -> usize
     requires { ⌜ at + (length (now key) + 11) ≤ length (now out) ⌝ }
-    ensures { λ r. ⌜ Puts (now (key .entry) ++ (decimalOf n ++ (newline ∷ []))) at (now (out .entry)) r (now (out .exit)) ⌝ }
+    ensures { λ r. ⌜ PutsText (now (key .entry) ++ (decimalOf n ++ (newline ∷ []))) at (now (out .entry)) r (now (out .exit)) ⌝ }
 {
     let next = put(out, at, key);
     let end = decimal(out, next, n);
@@ -63,7 +63,7 @@ pub fn decimal_line(out: &mut [u8], at: usize, key: &[u8], n: u32) -> usize
 // A number in decimal: its digits from the last to the first, and then as text.
 fn decimal(out: &mut [u8], at: usize, n: u32) -> usize
     requires { ⌜ at + 10 ≤ length (now out) ⌝ }
-    ensures { λ r. ⌜ Puts (decimalOf n) at (now (out .entry)) r (now (out .exit)) ⌝ }
+    ensures { λ r. ⌜ PutsText (decimalOf n) at (now (out .entry)) r (now (out .exit)) ⌝ }
 {
     let mut digits = [0u8; 10];
     let mut first = 9;

@@ -9,9 +9,12 @@ use native.Mathlib.Omega.{arith}
 use lib.Dec.{eqb}
 use lib.Pow.{shr-shr}
 use borrow.Author.Tests.{eq-eqb, ne-eqb}
-use Rattle.curve_laws.proofs.Jacobian.{Triple, triple, doubled, addH, addR, addWith, added, turn, binary}
+use Rattle.curve_laws.specs.Points.{at, total}
+use Rattle.curve_laws.proofs.Jacobian.{Triple, Stands, triple, doubled, addH, addR, addWith, added, turn, binary, affineX}
+use Rattle.curve_laws.proofs.Binary.{binary-stands, stands-x}
 use Rattle.points.specs.declared.Jacobian.{Jacobian}
-use Rattle.points.specs.Coordinates.{coordinates, Held}
+use Rattle.points.specs.Coordinates.{coordinates, Forms, Held}
+use Rattle.points.specs.Multiple.{Multiplies, SideOf}
 
 pub held-as : {m : List ℕ} {inv : ℕ} {j : Jacobian} {s t : Triple} → Held m inv j s → s ≡ t → Held m inv j t
 held-as {m} {inv} {j} h e = subst (λ (t : Triple). Held m inv j t) e h
@@ -39,6 +42,24 @@ not-across a b e = rw e
 -- what a point holds
 pub held-coordinates : {m : List ℕ} {inv : ℕ} {j : Jacobian} {t : Triple} → Held m inv j t → coordinates m inv j ≡ t
 held-coordinates h = rw (h .x .holds, h .y .holds, h .z .holds)
+
+-- a point that holds what the binary method makes is the multiple
+pub held-multiplies : {m : List ℕ} {inv : ℕ} {j : Jacobian} {p x y bits r : ℕ} → Held m inv j (binary p x y bits r)
+    → Forms m j × Multiplies p x y bits r (coordinates m inv j)
+held-multiplies {m} {inv} {j} {p} {x} {y} {bits} {r} h = (
+  record { x = h .x .form; y = h .y .form; z = h .z .form },
+  record {
+    stands = λ a b t l.
+        subst (λ (k : Triple). Stands p k (total p a r (at x y))) (sym (held-coordinates h))
+        (binary-stands (t .prime) (t .odd) a b (t .minus-three) (t .smooth) x y (t .on) bits r l);
+  },
+)
+
+-- the x coordinate of a multiple
+pub side-by : {p x y x′ y′ bits r found : ℕ} {j : Triple} → x ≡ x′ → y ≡ y′ → Multiplies p x y bits r j → found ≡ affineX p j → SideOf p x′ y′ bits r found
+side-by {p} {x} {y} {x′} {y′} {bits} {r} {found} {j} e f s is =
+    let s′ : Multiplies p x′ y′ bits r j = rw (e, f) at s in
+    record { side = λ a b t l. is ∙ stands-x (t .prime) (t .odd) a b (t .minus-three) (t .smooth) x′ y′ (t .on) r j (s′ .stands a b t l) }
 
 -- a turn of the binary method, for either bit
 module _ (p x y : ℕ) (j : Triple) where

@@ -10,9 +10,10 @@ ghost use Prim.Native.Nat.{_-_, _≤_};
 ghost use lib.ListN.{length};
 ghost use Rattle.limbs.specs.Limbs.{value};
 ghost use Rattle.curve_laws.proofs.Jacobian as jacobian;
-ghost use Rattle.curve_laws.proofs.Jacobian.{binary, affineX};
-ghost use Rattle.field.specs.Montgomery.{Field, Form, Holds, Gives};
+ghost use Rattle.curve_laws.proofs.Jacobian.{affineX};
+ghost use Rattle.field.specs.Montgomery.{Field, Form, Holds, Gives, plain};
 ghost use Rattle.points.specs.Coordinates.{coordinates, Forms, Makes};
+ghost use Rattle.points.specs.Multiple.{Multiplies};
 
 // One bit more: the double, and the point added where the bit is 1
 fn turn(
@@ -45,7 +46,7 @@ pub fn multiple(
     inv: u32,
 ) -> Jacobian
     requires { ⌜ Field (now m) inv × Form (now m) x × Form (now m) y × Holds (now m) inv one 1 ⌝ }
-    ensures { λ found. ⌜ Makes (now (m .entry)) inv found (λ p v. binary p (v x) (v y) bits (value (now (r .entry)))) ⌝ }
+    ensures { λ found. ⌜ Forms (now (m .entry)) found × Multiplies (value (now (m .entry))) (plain (now (m .entry)) inv x) (plain (now (m .entry)) inv y) bits (value (now (r .entry))) (coordinates (now (m .entry)) inv found) ⌝ }
 {
     let none = [0u32; 8];
     let mut j = Jacobian {

@@ -11,7 +11,7 @@ use lib.ListN.{length, length-append}
 use Rattle.laws.specs.Answer.{Result, gives, lentAfter}
 use Rattle.laws.proofs.Copied.{nothing-left}
 use Rattle.primitives.specs.Standards.{SHA256, HMAC}
-use Rattle.primitives.specs.Calls.{Answers, orRefusal, longestMessage, hashed, authenticated}
+use Rattle.primitives.specs.Calls.{Ends, orRefusal, longestMessage, hashed, authenticated}
 use Rattle.primitives.specs.declared.Ending.{Ending}
 
 -- an answer as long as the lent bytes is all that they hold after it
@@ -30,13 +30,13 @@ three a b c t = let p = both a (b && c) t in (p .0, both b c (p .1))
 
 -- a call with the test `test` of its sizes
 module _ (answer before : List ℕ) where
-  refused : (test : Bool) → (T test → ⊥) → Answers (orRefusal test answer) Ending.WrongSize before before
+  refused : (test : Bool) → (T test → ⊥) → Ends (orRefusal test answer) Ending.WrongSize before before
   unfolding orRefusal lentAfter
   refused true fails = absurd (fails tt)
   refused false fails = record { endIs = refl; bytesAre = refl }
 
   answered : (test : Bool) (after : List ℕ) → test ≡ true → length after ≡ length before → after ≡ answer
-      → Answers (orRefusal test answer) Ending.Done before after
+      → Ends (orRefusal test answer) Ending.Done before after
   unfolding orRefusal
   answered test after e n a =
       rw e (record { endIs = refl; bytesAre = a ∙ sym (lent-all answer before (sym (ap length a) ∙ n)) })
@@ -46,32 +46,32 @@ module _ (bytes before : List ℕ) where
   abbrev pub exactly : Result
   exactly = orRefusal (eqb (length before) (length bytes)) bytes
 
-  pub given-all : (after : List ℕ) → length before ≡ length bytes → after ≡ bytes → Answers exactly Ending.Done before after
+  pub given-all : (after : List ℕ) → length before ≡ length bytes → after ≡ bytes → Ends exactly Ending.Done before after
   given-all after n a =
       answered bytes before (eqb (length before) (length bytes)) after (eq-eqb _ _ n) (ap length a ∙ sym n) a
 
-  pub given-none : (length before ≡ length bytes → ⊥) → Answers exactly Ending.WrongSize before before
+  pub given-none : (length before ≡ length bytes → ⊥) → Ends exactly Ending.WrongSize before before
   given-none differ = refused bytes before (eqb (length before) (length bytes)) (λ t. differ (eqb→eq _ _ t))
 
   -- and where they are as many, they are all given
-  pub all-given : (after : List ℕ) (end : Ending) → length before ≡ length bytes → Answers exactly end before after → after ≡ bytes
+  pub all-given : (after : List ℕ) (end : Ending) → length before ≡ length bytes → Ends exactly end before after → after ≡ bytes
   unfolding orRefusal
   all-given after end n g = (rw (eq-eqb _ _ n) at (g .bytesAre)) ∙ lent-all bytes before (sym n)
 
   -- under a test of the other sizes that holds, `n` being as many bytes as the answer has
   given : (test : Bool) (n : ℕ) (answer : List ℕ) (end : Ending) (after : List ℕ) → test ≡ true → length bytes ≡ n → bytes ≡ answer
-      → Answers exactly end before after → Answers (orRefusal (test && eqb (length before) n) answer) end before after
+      → Ends exactly end before after → Ends (orRefusal (test && eqb (length before) n) answer) end before after
   given test n answer end after e size same g = rw e (rw (sym size) (rw (sym same) g))
 
 module _ (message before : List ℕ) where
-  pub hashed-refused : (length message ≤ longestMessage → ⊥) → Answers (hashed message (length before)) Ending.WrongSize before before
+  pub hashed-refused : (length message ≤ longestMessage → ⊥) → Ends (hashed message (length before)) Ending.WrongSize before before
   unfolding hashed
   hashed-refused fails =
       refused (SHA256 message) before (leb (length message) longestMessage && eqb (length before) 32)
       (λ t. fails (leb→le _ _ (both (leb (length message) longestMessage) (eqb (length before) 32) t .0)))
 
   pub hashed-given : (bytes after : List ℕ) (end : Ending) → length message ≤ longestMessage → length bytes ≡ 32 → bytes ≡ SHA256 message
-      → Answers (exactly bytes before) end before after → Answers (hashed message (length before)) end before after
+      → Ends (exactly bytes before) end before after → Ends (hashed message (length before)) end before after
   unfolding hashed
   hashed-given bytes after end m size same g =
       given bytes before (leb (length message) longestMessage) 32 (SHA256 message) end after (le-leb _ _ m) size same g
@@ -81,7 +81,7 @@ length-three xs ys zs = simp length-append
 
 module _ (key message before : List ℕ) where
   pub authenticated-refused : (length key ≤ longestMessage → length message ≤ longestMessage → ⊥)
-      → Answers (authenticated key message (length before)) Ending.WrongSize before before
+      → Ends (authenticated key message (length before)) Ending.WrongSize before before
   unfolding authenticated
   authenticated-refused fails =
       refused (HMAC key message) before _
@@ -90,8 +90,8 @@ module _ (key message before : List ℕ) where
       fails (leb→le _ _ (p .0)) (leb→le _ _ (p .1 .0)))
 
   pub authenticated-given : (bytes after : List ℕ) (end : Ending) → length key ≤ longestMessage → length message ≤ longestMessage
-      → length bytes ≡ 32 → bytes ≡ HMAC key message → Answers (exactly bytes before) end before after
-      → Answers (authenticated key message (length before)) end before after
+      → length bytes ≡ 32 → bytes ≡ HMAC key message → Ends (exactly bytes before) end before after
+      → Ends (authenticated key message (length before)) end before after
   unfolding authenticated
   authenticated-given bytes after end k m size same g =
       rw (le-leb _ _ k) (given bytes before (leb (length message) longestMessage) 32 (HMAC key message) end after (le-leb _ _ m) size same g)
@@ -101,7 +101,7 @@ module _ (key block done before : List ℕ) where
   abbrev pub blockResult : Result
   blockResult = orRefusal (eqb (length key) 16 && (eqb (length block) 16 && eqb (length before) 16)) done
 
-  pub block-refused : (length key ≡ 16 → length block ≡ 16 → ⊥) → Answers blockResult Ending.WrongSize before before
+  pub block-refused : (length key ≡ 16 → length block ≡ 16 → ⊥) → Ends blockResult Ending.WrongSize before before
   block-refused fails =
       refused done before _
       (λ t.
@@ -109,6 +109,6 @@ module _ (key block done before : List ℕ) where
       fails (eqb→eq _ _ (p .0)) (eqb→eq _ _ (p .1 .0)))
 
   pub block-given : (bytes after : List ℕ) (end : Ending) → length key ≡ 16 → length block ≡ 16 → length bytes ≡ 16 → bytes ≡ done
-      → Answers (exactly bytes before) end before after → Answers blockResult end before after
+      → Ends (exactly bytes before) end before after → Ends blockResult end before after
   block-given bytes after end k b size same g =
       rw (eq-eqb _ _ k) (given bytes before (eqb (length block) 16) 16 done end after (eq-eqb _ _ b) size same g)

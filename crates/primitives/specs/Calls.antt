@@ -32,15 +32,15 @@ unfoldable pub decrypted : List ℕ → List ℕ → ℕ → Result
 decrypted key block room = orRefusal (eqb (length key) 16 && (eqb (length block) 16 && eqb room 16)) (InvAES128 key block)
 
 -- The paper's number for each end of a call: 0 where it is no refusal
-abbrev pub number : Ending → ℕ
-number Ending.Done = 0
-number Ending.WrongSize = 7
+abbrev pub endNumber : Ending → ℕ
+endNumber Ending.Done = 0
+endNumber Ending.WrongSize = 7
 
 abbrev pub numberOf : Result → ℕ
 numberOf (gives answer) = 0
 numberOf (refuses n) = n
 
 -- What a call promises of its end and of all the lent bytes, which were `before` and are `after`
-pub record Answers (result : Result) (end : Ending) (before after : List ℕ) : Type 0 where
-  pub endIs : number end ≡ numberOf result
+pub record Ends (result : Result) (end : Ending) (before after : List ℕ) : Type 0 where
+  pub endIs : endNumber end ≡ numberOf result
   pub bytesAre : after ≡ lentAfter result before

@@ -7,7 +7,7 @@ ghost use Prim.Native.Nat.{ℕ, _≤_};
 ghost use lib.ListN.{length};
 ghost use Rattle.primitives.specs.Standards.{SHA256, HMAC, keyedBy, AES128, InvAES128, AES256};
 ghost use lib.Dec.{eqb};
-ghost use Rattle.primitives.specs.Calls.{Answers, orRefusal, hashed, authenticated, encrypted, decrypted};
+ghost use Rattle.primitives.specs.Calls.{Ends, orRefusal, hashed, authenticated, encrypted, decrypted};
 
 // The end of a call: the answer is written, or a length is not as the call asks (refusal 7) and nothing is written.
 pub enum Ending {
@@ -23,7 +23,7 @@ const BLOCK: usize = 16;
 
 // SHA-256 of a message of up to 65,535 bytes, into an answer of 32 bytes. Refusal: 7.
 pub fn sha256(message: &[u8], answer: &mut [u8]) -> Ending
-    ensures { λ r. ⌜ Answers (hashed (now (message .entry)) (length (now (answer .entry)))) r (now (answer .entry)) (now (answer .exit)) ⌝ }
+    ensures { λ r. ⌜ Ends (hashed (now (message .entry)) (length (now (answer .entry)))) r (now (answer .entry)) (now (answer .exit)) ⌝ }
 {
     if LONGEST < message.len() {
         return Ending::WrongSize;
@@ -34,7 +34,7 @@ pub fn sha256(message: &[u8], answer: &mut [u8]) -> Ending
 
 // HMAC-SHA-256 under a key of up to 65,535 bytes of a message of as many, into an answer of 32 bytes. Refusal: 7.
 pub fn hmac_sha256(key: &[u8], message: &[u8], answer: &mut [u8]) -> Ending
-    ensures { λ r. ⌜ Answers (authenticated (now (key .entry)) (now (message .entry)) (length (now (answer .entry)))) r (now (answer .entry)) (now (answer .exit)) ⌝ }
+    ensures { λ r. ⌜ Ends (authenticated (now (key .entry)) (now (message .entry)) (length (now (answer .entry)))) r (now (answer .entry)) (now (answer .exit)) ⌝ }
 {
     hmac_sha256_parts(key, message, b"", b"", answer)
 }
@@ -47,7 +47,7 @@ pub fn hmac_sha256_parts(
     last: &[u8],
     answer: &mut [u8],
 ) -> Ending
-    ensures { λ r. ⌜ Answers (authenticated (now (key .entry)) (now (head .entry) ++ (now (tail .entry) ++ now (last .entry))) (length (now (answer .entry)))) r (now (answer .entry)) (now (answer .exit)) ⌝ }
+    ensures { λ r. ⌜ Ends (authenticated (now (key .entry)) (now (head .entry) ++ (now (tail .entry) ++ now (last .entry))) (length (now (answer .entry)))) r (now (answer .entry)) (now (answer .exit)) ⌝ }
 {
     if LONGEST < key.len() {
         return Ending::WrongSize;
@@ -70,7 +70,7 @@ pub fn hmac_sha256_parts(
 
 // AES-128 of a block of 16 bytes under a key of 16 bytes, into an answer of 16 bytes. Refusal: 7.
 pub fn aes128_encrypt(key: &[u8], block: &[u8], answer: &mut [u8]) -> Ending
-    ensures { λ r. ⌜ Answers (encrypted (now (key .entry)) (now (block .entry)) (length (now (answer .entry)))) r (now (answer .entry)) (now (answer .exit)) ⌝ }
+    ensures { λ r. ⌜ Ends (encrypted (now (key .entry)) (now (block .entry)) (length (now (answer .entry)))) r (now (answer .entry)) (now (answer .exit)) ⌝ }
 {
     if key.len() != BLOCK {
         return Ending::WrongSize;
@@ -84,7 +84,7 @@ pub fn aes128_encrypt(key: &[u8], block: &[u8], answer: &mut [u8]) -> Ending
 
 // Its inverse, with the same sizes. Refusal: 7.
 pub fn aes128_decrypt(key: &[u8], block: &[u8], answer: &mut [u8]) -> Ending
-    ensures { λ r. ⌜ Answers (decrypted (now (key .entry)) (now (block .entry)) (length (now (answer .entry)))) r (now (answer .entry)) (now (answer .exit)) ⌝ }
+    ensures { λ r. ⌜ Ends (decrypted (now (key .entry)) (now (block .entry)) (length (now (answer .entry)))) r (now (answer .entry)) (now (answer .exit)) ⌝ }
 {
     if key.len() != BLOCK {
         return Ending::WrongSize;
@@ -108,7 +108,7 @@ fn sixteen(s: &[u8]) -> [u8; 16]
 
 // Gives the bytes where the answer has room for exactly them. Otherwise refusal 7, and none of them is written.
 fn give(answer: &mut [u8], bytes: &[u8]) -> Ending
-    ensures { λ r. ⌜ Answers (orRefusal (eqb (length (now (answer .entry))) (length (now (bytes .entry)))) (now (bytes .entry))) r (now (answer .entry)) (now (answer .exit)) ⌝ }
+    ensures { λ r. ⌜ Ends (orRefusal (eqb (length (now (answer .entry))) (length (now (bytes .entry)))) (now (bytes .entry))) r (now (answer .entry)) (now (answer .exit)) ⌝ }
 {
     let mut i = 0;
     while answer.len() == bytes.len() && i < bytes.len() {

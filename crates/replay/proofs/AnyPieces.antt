@@ -13,9 +13,10 @@ use Rattle.unit.specs.declared.TagUnit.{TagUnit}
 use Rattle.unit.specs.Outcome.{Outcome}
 use Rattle.tag.specs.Calls.{newUnit}
 use Rattle.notation.specs.Text.{newline}
-use Rattle.replay.specs.Event.{performed, printed, refusedText, malformedText}
-use Rattle.replay.specs.Replay.{Expected, Line, follows, brings, settles, breaks, judged, done, run, lines, File, mayEnd, longestLine, replay, begun, onto, event, inside}
+use Rattle.replay.specs.Replay.{judged, done, run, lines, File, mayEnd, longestLine, replay, begun, onto}
 use Rattle.replay.specs.Feeding.{State, reading, ended, Fed, fed, fedTo, byte, closed, finish, first, inPieces, whole, AnyPieces, beginning}
+use Rattle.events.specs.Event.{performed, printed, refusedText, malformedText}
+use Rattle.lines.specs.Lines.{Expected, Line, follows, brings, setsUp, breaks, event, inside}
 
 -- Feeding goes over append
 pub fed-append : (xs ys : List ℕ) (s : State)
@@ -76,9 +77,9 @@ onward ended bs = []
 onward (reading e n u part) bs = over e n u (lines (part ++ bs))
 
 -- a part that a state may hold
-abbrev Sound : State → Type 0
-Sound ended = Unit
-Sound (reading e n u part) = clean part × (length part ≤ longestLine)
+abbrev Bounded : State → Type 0
+Bounded ended = Unit
+Bounded (reading e n u part) = clean part × (length part ≤ longestLine)
 
 no-end : (e : Expected) (q r : List ℕ) → longestLine < length q → mayEnd e (q ++ r) ≡ false
 no-end event [] r h = absurd (omega arith)
@@ -99,7 +100,7 @@ abbrev total : Fed → List ℕ → List ℕ
 total f bs = f .printed ++ (fed bs (f .state) .printed ++ finish (fed bs (f .state) .state))
 
 abbrev Onward : List ℕ → Type 0
-Onward bs = (s : State) → Sound s → fed bs s .printed ++ finish (fed bs s .state) ≡ onward s bs
+Onward bs = (s : State) → Bounded s → fed bs s .printed ++ finish (fed bs s .state) ≡ onward s bs
 
 nothing-more : (x bs : List ℕ) → x ++ (fed bs ended .printed ++ finish (fed bs ended .state)) ≡ x
 unfolding finish
@@ -111,45 +112,45 @@ closing : (bs : List ℕ) → Onward bs → (l : Line) (n : ℕ) (u : TagUnit)
 unfolding closed done clean
 closing bs more (follows a) n u = more (reading (inside a) (suc n) u []) (tt, zero-le)
 closing bs more (brings e) n u = rw (more (reading event (suc n) (performed e u .unit) []) (tt, zero-le))
-closing bs more (settles p c s) n u = settled (newUnit p c s) (newUnit p c s .result)
+closing bs more (setsUp p c s) n u = started (newUnit p c s) (newUnit p c s .result)
   where
-    settled : (o : Outcome) (r : Result) → total (beginning o r n) bs ≡ begun o r (λ e′ u′. over e′ (suc n) u′ (lines bs))
-    settled o (gives answer) = more (reading event (suc n) (o .unit) []) (tt, zero-le)
-    settled o (refuses k) = nothing-more (refusedText k) bs
+    started : (o : Outcome) (r : Result) → total (beginning o r n) bs ≡ begun o r (λ e′ u′. over e′ (suc n) u′ (lines bs))
+    started o (gives answer) = more (reading event (suc n) (o .unit) []) (tt, zero-le)
+    started o (refuses k) = nothing-more (refusedText k) bs
 closing bs more breaks n u = nothing-more (malformedText n) bs
 
 -- the state after a byte that closes no line
-growing : (b : ℕ) (bs : List ℕ) → Onward bs → (e : Expected) (n : ℕ) (u : TagUnit) (part : List ℕ) → Sound (reading e n u part)
+growing : (b : ℕ) (bs : List ℕ) → Onward bs → (e : Expected) (n : ℕ) (u : TagUnit) (part : List ℕ) → Bounded (reading e n u part)
     → eqb b newline ≡ false → (t : Bool) → ltb (length part) longestLine ≡ t
     → total (cond t (fedTo (reading e n u (part ++ (b ∷ []))) []) (fedTo ended (malformedText n))) bs ≡ onward (reading e n u part) (b ∷ bs)
-growing b bs more e n u part sound h true t =
+growing b bs more e n u part bounded h true t =
     let short : length part < longestLine = ltb-true (length part) longestLine t in
     let size : length (part ++ (b ∷ [])) ≡ length part + 1 = length-append part (b ∷ []) in
-    more (reading e n u (part ++ (b ∷ []))) (clean-more part b (sound .0) h, omega arith)
+    more (reading e n u (part ++ (b ∷ []))) (clean-more part b (bounded .0) h, omega arith)
     ∙ rw append-assoc
-growing b bs more e n u part sound h false t =
+growing b bs more e n u part bounded h false t =
     let long : longestLine ≤ length part = ltb-false (length part) longestLine t in
     let size : length (part ++ (b ∷ [])) ≡ length part + 1 = length-append part (b ∷ []) in
     nothing-more (malformedText n) bs
-    ∙ sym (rw (← append-assoc part (b ∷ []) bs, lines-before (part ++ (b ∷ [])) bs (clean-more part b (sound .0) h))
+    ∙ sym (rw (← append-assoc part (b ∷ []) bs, lines-before (part ++ (b ∷ [])) bs (clean-more part b (bounded .0) h))
     (too-long e n u (part ++ (b ∷ [])) (lines bs .0) (lines bs .1) (omega arith)))
 
 -- one byte more
-step : (b : ℕ) (bs : List ℕ) → Onward bs → (e : Expected) (n : ℕ) (u : TagUnit) (part : List ℕ) → Sound (reading e n u part)
+step : (b : ℕ) (bs : List ℕ) → Onward bs → (e : Expected) (n : ℕ) (u : TagUnit) (part : List ℕ) → Bounded (reading e n u part)
     → (t : Bool) → eqb b newline ≡ t
     → total (byte b (reading e n u part)) bs ≡ onward (reading e n u part) (b ∷ bs)
 unfolding byte run
-step b bs more e n u part sound true h =
-    rw (h, lines-closed part b bs (sound .0) h) (closing bs more (judged e n part) n u)
-step b bs more e n u part sound false h = rw h (growing b bs more e n u part sound h (ltb (length part) longestLine) refl)
+step b bs more e n u part bounded true h =
+    rw (h, lines-closed part b bs (bounded .0) h) (closing bs more (judged e n part) n u)
+step b bs more e n u part bounded false h = rw h (growing b bs more e n u part bounded h (ltb (length part) longestLine) refl)
 
 goes-on : (bs : List ℕ) → Onward bs
 unfolding fed finish run
-goes-on [] ended sound = refl
-goes-on [] (reading e n u part) sound = rw (lines-open part (sound .0))
-goes-on (b ∷ bs) ended sound = nothing-more [] (b ∷ bs)
-goes-on (b ∷ bs) (reading e n u part) sound =
-    append-assoc (byte b (reading e n u part) .printed) _ _ ∙ step b bs (goes-on bs) e n u part sound (eqb b newline) refl
+goes-on [] ended bounded = refl
+goes-on [] (reading e n u part) bounded = rw (lines-open part (bounded .0))
+goes-on (b ∷ bs) ended bounded = nothing-more [] (b ∷ bs)
+goes-on (b ∷ bs) (reading e n u part) bounded =
+    append-assoc (byte b (reading e n u part) .printed) _ _ ∙ step b bs (goes-on bs) e n u part bounded (eqb b newline) refl
 
 total-is : (ps : List (List ℕ)) (s : State) → inPieces ps s ≡ fed (whole ps) s .printed ++ finish (fed (whole ps) s .state)
 unfolding inPieces whole fed

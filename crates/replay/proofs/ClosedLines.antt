@@ -11,42 +11,25 @@ use lib.ListN.{length, take}
 use borrow.Author.Tests.{le-leb, lt-leb}
 use Rattle.laws.proofs.Flags.{and-fails-right}
 use Rattle.laws.specs.Answer.{Result, gives, refuses}
-use Rattle.unit.specs.Refusals.{number, endOf, ending}
-use Rattle.unit.specs.Outcome.{Outcome, Settles}
+use Rattle.unit.specs.Refusals.{refusalNumber, endOf, ending}
+use Rattle.unit.specs.Outcome.{Outcome, Completes}
 use Rattle.unit.specs.declared.TagUnit.{TagUnit}
 use Rattle.unit.specs.declared.Reply.{Reply}
 use Rattle.unit.specs.declared.Reply.the-variants.{Done, Refused}
 use Rattle.replay.specs.declared.Run.{Run}
-use Rattle.replay.specs.declared.Awaited as code
-use Rattle.replay.specs.declared.Next.{Next}
-use Rattle.replay.specs.declared.Next.the-variants as next
-use Rattle.replay.specs.declared.lines.Line as lines
-use Rattle.replay.specs.declared.lines.Line.the-variants as told
-use Rattle.replay.specs.declared.lines.Told.{Told}
-use Rattle.replay.specs.Event.{refusedText}
-use Rattle.replay.specs.Replay.{Awaited, event, inside, Line, follows, breaks, held, taken, judged, longestLine, mostLines}
+use Rattle.lines.specs.declared.Awaited as code
+use Rattle.lines.specs.declared.Next.{Next}
+use Rattle.lines.specs.declared.Next.the-variants as next
+use Rattle.lines.specs.declared.Line as lines
+use Rattle.replay.specs.Replay.{judged, longestLine, mostLines}
 use Rattle.replay.specs.Feeding.{reading, ended, Fed, fedTo, closed, beginning}
-use Rattle.replay.specs.Session.{SoundRun, stateWith, awaiting, expecting, expectedOf}
-use Rattle.replay.specs.Inner.{Closes, ClosesLine, moved, lineOf, Means, Says, SaysNumber}
+use Rattle.replay.specs.Session.{BoundedRun, stateWith, expectedOf}
+use Rattle.replay.specs.Closing.{Closes, ClosesLine, Ready, moved}
 use Rattle.notation.proofs.Placed.{puts-nothing}
-
--- a line that is whole by itself
-pub says-plain : {l : Line} {line : lines.Line} → Means l line → {t : Told} {into : List ℕ} → t ≡ record { line = line; number = 0; count = 0 }
-    → Says (λ p c kept. l) t into
-says-plain m same = rw same (record { lineIs = λ p c kept. m .lineIs p c kept 0 []; withinRoom = omega arith })
-
--- one with its number
-pub says-number : {l : ℤ → ℕ → List ℕ → Line} {t : Told} {into : List ℕ} → SaysNumber l t → Says l t into
-says-number s = record { lineIs = λ p c kept. rw (s .noBytes) (s .lineIs p c kept); withinRoom = omega (arith, s .noBytes) }
-
--- what was expected there
-pub says-at : {next known : Next} (l : List ℕ) → next ≡ known → {t : Told} {into : List ℕ}
-    → Says (λ p c kept. taken (expecting known p c kept) l) t into → Says (λ p c kept. taken (expecting next p c kept) l) t into
-says-at l e s = rw e s
-
-pub says-of : {a known : code.Awaited} (l : List ℕ) → a ≡ known → {t : Told} {into : List ℕ}
-    → Says (λ p c kept. held (awaiting known p c kept) l) t into → Says (λ p c kept. held (awaiting a p c kept) l) t into
-says-of l e s = rw e s
+use Rattle.events.specs.Event.{Event, refusedText}
+use Rattle.events.specs.Promises.{Performs}
+use Rattle.lines.specs.Lines.{Awaited, event, inside, Line, follows, brings, breaks, taken}
+use Rattle.lines.specs.Promises.{awaiting, expecting, lineOf}
 
 -- the line that the code told
 pub closes-told : (run : Run) (n : ℕ) (bytes : List ℕ) {what known : lines.Line} → what ≡ known → {at written : ℕ} {before out : List ℕ} {after : Run}
@@ -62,25 +45,25 @@ module _ (n : ℕ) (u : TagUnit) {at written : ℕ} {before : List ℕ} {run : R
   closes-fed e p = rw e at p
 
   -- a line that another is to follow prints nothing
-  pub closes-follow : (a : Awaited) → stateWith run [] ≡ reading (inside a) (suc n) u [] → SoundRun run → written ≡ at
+  pub closes-follow : (a : Awaited) → stateWith run [] ≡ reading (inside a) (suc n) u [] → BoundedRun run → written ≡ at
       → Closes (closed (follows a) n u) at before run written before
   unfolding closed
-  closes-follow a state sound w =
-      record { stateIs = state; sound = sound; few = omega arith; puts = rw w (puts-nothing at before) }
+  closes-follow a state bounded w =
+      record { stateIs = state; bounded = bounded; few = omega arith; puts = rw w (puts-nothing at before) }
 
 -- the settings: a new unit, or a refusal that ends the run
 abbrev pub begunBy : Reply → TagUnit → ℕ → Fed
 begunBy (Done k) u n = fedTo (reading event (suc n) u []) []
-begunBy (Refused r) u n = fedTo ended (refusedText (number r))
+begunBy (Refused r) u n = fedTo ended (refusedText (refusalNumber r))
 
-pub begins-by : (o : Outcome) {u : TagUnit} (reply : Reply) (n : ℕ) → Settles o u reply → begunBy reply u n ≡ beginning o (o .result) n
+pub begins-by : (o : Outcome) {u : TagUnit} (reply : Reply) (n : ℕ) → Completes o u reply → begunBy reply u n ≡ beginning o (o .result) n
 begins-by o {u} reply n p = rw (p .unitIs) (go (o .result) reply (p .endIs))
   where
     go : (res : Result) (reply : Reply) → endOf reply ≡ ending res → begunBy reply (o .unit) n ≡ beginning o res n
     go (gives a) (Done k) h = refl
     go (gives a) (Refused r) h = let z : _≡_ {A = ℕ} 0 1 = cc in absurd (omega arith)
     go (refuses k) (Done m) h = let z : _≡_ {A = ℕ} 0 1 = cc in absurd (omega arith)
-    go (refuses k) (Refused r) h = let same : number r ≡ k = cc in ap (λ (x : ℕ). fedTo ended (refusedText x)) same
+    go (refuses k) (Refused r) h = let same : refusalNumber r ≡ k = cc in ap (λ (x : ℕ). fedTo ended (refusedText x)) same
 
 -- the run with what lines before were read as
 abbrev pub keeping : ℤ → ℕ → List ℕ → ℕ → Run → Run
@@ -117,3 +100,15 @@ module _ (run : Run) (line : List ℕ) where
   pub judged-late : mostLines < run .number → breaks ≡ judged (expectedOf run) (run .number) line
   unfolding judged
   judged-late late = rw (lt-leb (run .number) mostLines late, and-fails-right (leb (length line) longestLine) refl)
+
+-- an event that was performed closes its line
+pub closes-event : {e : Event} {run after : Run} {unit : TagUnit} {at written : ℕ} {before out : List ℕ} → Ready run at before
+    → after ≡ moved next.Event unit run → Performs e (run .unit) at before unit written out → ClosesLine (brings e) run at before after written out
+unfolding closed
+closes-event ready is p =
+    record {
+      stateIs = rw (is, ready .going, p .unitIs, add-one);
+      bounded = rw is (record { numbered = omega (arith, ready .counted); withinR = ready .bounded .withinR });
+      few = p .few;
+      puts = p .puts;
+    }

@@ -8,23 +8,23 @@ use native.Mathlib.Omega.{arith}
 use lib.Dec.{eqb}
 use lib.ListN.{length, take, length-take}
 use borrow.Author.Tests.{le-leb, lt-leb, eq-eqb, ne-eqb, eqb-true, eqb-false}
-use Rattle.replay.specs.declared.Awaited.{Awaited}
-use Rattle.replay.specs.declared.Next.the-variants as next
+use Rattle.lines.specs.declared.Awaited.{Awaited}
+use Rattle.lines.specs.declared.Next.the-variants as next
 use Rattle.replay.specs.declared.Session.{Session}
 use Rattle.replay.specs.declared.Finished.the-variants as finished
-use Rattle.replay.specs.Event.{malformedText}
 use Rattle.replay.specs.Replay.{longestLine}
 use Rattle.replay.specs.Feeding.{finish}
-use Rattle.notation.specs.Written.{Puts}
+use Rattle.notation.specs.Written.{PutsText}
 use Rattle.replay.specs.Session.{stateOf, finishRoom, Finishes}
 use Rattle.notation.proofs.Placed.{placed-first, puts-nothing}
+use Rattle.events.specs.Event.{malformedText}
 
 module _ (s : Session) (before : List ℕ) where
   pub no-room : length before < finishRoom → Finishes s before finished.NoRoom before
   no-room h = record { resultIs = rw (lt-leb finishRoom (length before) h); bytesAre = rw (lt-leb finishRoom (length before) h) }
 
   module _ (room : finishRoom ≤ length before) where
-    pub with-room : (text : List ℕ) {written : ℕ} {after : List ℕ} → finish (stateOf s) ≡ text → Puts text 0 before written after
+    pub with-room : (text : List ℕ) {written : ℕ} {after : List ℕ} → finish (stateOf s) ≡ text → PutsText text 0 before written after
         → Finishes s before (finished.Wrote written) after
     with-room text {written} {after} is puts =
         record {
@@ -38,7 +38,7 @@ module _ (s : Session) (before : List ℕ) where
 
     -- where an event could begin: nothing, or what stands after the last newline
     pub event-left : {written : ℕ} {after : List ℕ} → s .run .ended ≡ false → s .run .next ≡ next.Event → length (s .line) ≡ longestLine
-        → Puts (cond (eqb (s .count) 0) [] (malformedText (s .run .number))) 0 before written after
+        → PutsText (cond (eqb (s .count) 0) [] (malformedText (s .run .number))) 0 before written after
         → Finishes s before (finished.Wrote written) after
     unfolding finish
     event-left going here long puts =
@@ -50,6 +50,6 @@ module _ (s : Session) (before : List ℕ) where
 
     -- inside the settings or an event a line is missing
     pub inside-left : (a : Awaited) {written : ℕ} {after : List ℕ} → s .run .ended ≡ false → s .run .next ≡ next.Inside a
-        → Puts (malformedText (s .run .number)) 0 before written after → Finishes s before (finished.Wrote written) after
+        → PutsText (malformedText (s .run .number)) 0 before written after → Finishes s before (finished.Wrote written) after
     unfolding finish
     inside-left a going here puts = with-room (malformedText (s .run .number)) (rw (going, here)) puts

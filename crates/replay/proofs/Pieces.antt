@@ -12,23 +12,24 @@ use borrow.Author.Tests.{eq-eqb, ne-eqb, lt-ltb, le-ltb, le-leb, lt-leb}
 use Rattle.replay.specs.declared.Run.{Run}
 use Rattle.replay.specs.declared.Session.{Session}
 use Rattle.notation.specs.Text.{newline}
-use Rattle.replay.specs.Event.{malformedText}
 use Rattle.replay.specs.Replay.{judged, longestLine}
 use Rattle.replay.specs.Feeding.{State, reading, ended, Fed, fed, fedTo, byte, closed}
-use Rattle.notation.specs.Written.{Puts}
-use Rattle.replay.specs.Session.{SoundRun, Sound, stateOf, expectedOf, lineRoom, takes, GoesOn, Feeds}
-use Rattle.replay.specs.Inner.{Closes, Takes}
+use Rattle.notation.specs.Written.{PutsText}
+use Rattle.replay.specs.Session.{BoundedRun, Bounded, stateOf, expectedOf, takes, GoesOn, Feeds}
+use Rattle.replay.specs.Closing.{Closes, Takes}
 use Rattle.notation.proofs.Placed.{puts-then, puts-nothing, placed-first}
 use Rattle.replay.proofs.AnyPieces.{fed-append, fed-ended}
+use Rattle.events.specs.Event.{malformedText}
+use Rattle.events.specs.Promises.{lineRoom}
 
 -- after the first bytes of a piece
 pub record Passed (s : Session) (piece before : List ℕ) (session : Session) (written taken : ℕ) (out : List ℕ) : Type 0 where
   pub inPiece : taken ≤ length piece
   pub stateIs : stateOf session ≡ fed (take taken piece) (stateOf s) .state
-  pub puts : Puts (fed (take taken piece) (stateOf s) .printed) 0 before written out
+  pub puts : PutsText (fed (take taken piece) (stateOf s) .printed) 0 before written out
   pub within : written ≤ length before
   pub kept : length out ≡ length before
-  pub sound : Sound session
+  pub bounded : Bounded session
   pub lineLong : length (session .line) ≡ longestLine
   pub rest : takes (length before) piece (stateOf s) ≡ taken + takes (length before - written) (drop taken piece) (stateOf session)
 
@@ -66,16 +67,16 @@ fed-next piece s i h =
     rw (add-one i, take-suc piece i 0 h) (fed-append (take i piece) (getD piece i 0 ∷ []) s ∙ rw append-nil)
 
 -- nothing is taken yet
-pub passed-none : (s : Session) (piece before : List ℕ) → Sound s → length (s .line) ≡ longestLine → Passed s piece before s 0 0 before
+pub passed-none : (s : Session) (piece before : List ℕ) → Bounded s → length (s .line) ≡ longestLine → Passed s piece before s 0 0 before
 unfolding fed
-passed-none s piece before sound long =
+passed-none s piece before bounded long =
     record {
       inPiece = omega arith;
       stateIs = refl;
       puts = puts-nothing 0 before;
       within = omega arith;
       kept = refl;
-      sound = sound;
+      bounded = bounded;
       lineLong = long;
       rest = ap (λ (room : ℕ). takes room piece (stateOf s)) (sym (sub-zero (length before))) ∙ sym (zero-add _);
     }
@@ -110,13 +111,13 @@ module _ {s : Session} {piece before : List ℕ} {session : Session} {written ta
         puts = rw next (puts-then (p .puts) (t .puts) (omega (arith, p .puts .nextIs, p .within)));
         within = omega (arith, t .puts .nextIs, t .few);
         kept = long;
-        sound = t .sound;
+        bounded = t .bounded;
         lineLong = t .lineStays (p .lineLong);
         rest = rest-next h going room t;
       }
 
   -- what was taken is what `feed` promises, where no more would be
-  pub fed-so-far : Sound s → takes (length before - written) (drop taken piece) (stateOf session) ≡ 0 → Feeds s piece before session taken written out
+  pub fed-so-far : Bounded s → takes (length before - written) (drop taken piece) (stateOf session) ≡ 0 → Feeds s piece before session taken written out
   fed-so-far start stop =
       let size : written ≡ length (fed (take taken piece) (stateOf s) .printed) = p .puts .nextIs ∙ zero-add _ in
       record {
@@ -125,7 +126,7 @@ module _ {s : Session} {piece before : List ℕ} {session : Session} {written ta
         stateIs = p .stateIs;
         writtenIs = size;
         bytesAre = p .puts .bytesAre ∙ placed-first _ before ∙ rw size;
-        staysSound = λ _. p .sound;
+        staysBounded = λ _. p .bounded;
       }
 
   -- no more is taken where the piece is over, and where there is too little room
@@ -160,7 +161,7 @@ module _ {s : Session} {piece before : List ℕ} {session : Session} {written ta
         puts = rw whole (p .puts);
         within = p .within;
         kept = p .kept;
-        sound = p .sound;
+        bounded = p .bounded;
         lineLong = p .lineLong;
         rest = omega (arith, p .rest, all, none, p .inPiece);
       }
@@ -179,15 +180,15 @@ module _ (s : Session) (b : ℕ) (going : s .run .ended ≡ false) (long : lengt
   unfolding byte
   byte-breaks e h = rw (going, ne-eqb b newline e, sized, le-ltb (s .count) longestLine h)
 
-  pub takes-more : SoundRun (s .run) → (b ≡ newline → ⊥) → s .count < longestLine → (at : ℕ) (before : List ℕ)
+  pub takes-more : BoundedRun (s .run) → (b ≡ newline → ⊥) → s .count < longestLine → (at : ℕ) (before : List ℕ)
       → Takes s b at before (record { run = s .run; line = set (s .line) (s .count) b; count = s .count + 1 }) at before
   unfolding byte
-  takes-more sound e h at before =
+  takes-more bounded e h at before =
       let grows : byte b (stateOf s) ≡ fedTo (reading (expectedOf (s .run)) (s .run .number) (s .run .unit) (take (s .count) (s .line) ++ (b ∷ []))) [] =
       rw (going, ne-eqb b newline e, sized, lt-ltb (s .count) longestLine h) in
       record {
         stateIs = rw (grows, going, add-one, take-suc-set (s .line) (s .count) b (omega arith));
-        sound = record { soundRun = sound; withinLine = omega arith };
+        bounded = record { boundedRun = bounded; withinLine = omega arith };
         few = rw grows (omega arith);
         puts = rw grows (puts-nothing at before);
         lineStays = λ e. length-set (s .line) (s .count) b ∙ e;
@@ -199,7 +200,7 @@ pub takes-line : {s : Session} {b : ℕ} {f : Fed} → byte b (stateOf s) ≡ f 
 takes-line e c =
     record {
       stateIs = rw e (c .stateIs);
-      sound = record { soundRun = c .sound; withinLine = omega arith };
+      bounded = record { boundedRun = c .bounded; withinLine = omega arith };
       few = rw e (c .few);
       puts = rw e (c .puts);
       lineStays = λ e. e;

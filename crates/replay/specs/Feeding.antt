@@ -11,8 +11,9 @@ use Rattle.unit.specs.Outcome.{Outcome}
 use Rattle.unit.specs.Change.{noUnit}
 use Rattle.tag.specs.Calls.{newUnit}
 use Rattle.notation.specs.Text.{newline}
-use Rattle.replay.specs.Event.{performed, printed, refusedText, malformedText}
-use Rattle.replay.specs.Replay.{Expected, power, event, inside, Line, follows, brings, settles, breaks, judged, longestLine, mayEnd, replay}
+use Rattle.replay.specs.Replay.{judged, longestLine, mayEnd, replay}
+use Rattle.events.specs.Event.{performed, printed, refusedText, malformedText}
+use Rattle.lines.specs.Lines.{Expected, power, event, inside, Line, follows, brings, setsUp, breaks}
 
 -- A run that goes on, with what is expected, the number of the line that is being read, its bytes so far, and the unit; or one that ended
 pub data State : Type 0 where
@@ -35,7 +36,7 @@ beginning o (refuses k) n = fedTo ended (refusedText k)
 unfoldable pub closed : Line → ℕ → TagUnit → Fed
 closed (follows a) n u = fedTo (reading (inside a) (suc n) u []) []
 closed (brings e) n u = fedTo (reading event (suc n) (performed e u .unit) []) (printed e (performed e u) (performed e u .result))
-closed (settles p c s) n u = beginning (newUnit p c s) (newUnit p c s .result) n
+closed (setsUp p c s) n u = beginning (newUnit p c s) (newUnit p c s .result) n
 closed breaks n u = fedTo ended (malformedText n)
 
 -- one byte; a line that has grown too long is malformed at once

@@ -1,5 +1,4 @@
-pub mod Event
 pub mod Replay
 pub mod Feeding
 pub mod Session
-pub mod Inner
+pub mod Closing

@@ -6,35 +6,16 @@ use mathlib.Core.List.{List, [], _∷_, _++_}
 use lib.Dec.{leb}
 use lib.ListN.{length, take, drop}
 use lib.IntN.{ℤ}
-use Rattle.replay.specs.declared.Next.{Next}
-use Rattle.replay.specs.declared.Next.the-variants as next
-use Rattle.replay.specs.declared.Awaited as code
-use Rattle.replay.specs.declared.Awaited.the-variants as awaited
 use Rattle.replay.specs.declared.Run.{Run}
 use Rattle.replay.specs.declared.Session.{Session}
 use Rattle.replay.specs.declared.Finished.{Finished}
 use Rattle.replay.specs.declared.Finished.the-variants as finished
+use Rattle.events.specs.Promises.{lineRoom}
+use Rattle.lines.specs.Lines.{Expected}
+use Rattle.lines.specs.Promises.{expecting}
 use Rattle.replay.specs.Replay as replay
-use Rattle.replay.specs.Replay.{Awaited, Expected, inside, power, components, volume, nonce, «data», tenths, on, level, keyBytes, r, id, longestLine, mostLines}
+use Rattle.replay.specs.Replay.{longestLine, mostLines}
 use Rattle.replay.specs.Feeding.{State, reading, ended, byte, fed, finish, first}
-
--- what is expected, with what was read before it
-abbrev pub awaiting : code.Awaited → ℤ → ℕ → List ℕ → Awaited
-awaiting awaited.Power p c b = power
-awaiting awaited.Components p c b = components p
-awaiting awaited.Volume p c b = volume p c
-awaiting awaited.Nonce p c b = nonce
-awaiting awaited.Data p c b = «data»
-awaiting awaited.Tenths p c b = tenths
-awaiting awaited.On p c b = on
-awaiting awaited.Level p c b = level
-awaiting awaited.KeyBytes p c b = keyBytes
-awaiting awaited.R p c b = r
-awaiting awaited.Id p c b = id b
-
-abbrev pub expecting : Next → ℤ → ℕ → List ℕ → Expected
-expecting next.Event p c b = replay.event
-expecting (next.Inside a) p c b = inside (awaiting a p c b)
 
 abbrev pub expectedOf : Run → Expected
 expectedOf run = expecting (run .next) (run .power) (run .components) (take (run .filled) (run .r))
@@ -46,18 +27,14 @@ stateWith run part = cond (run .ended) ended (reading (expectedOf run) (run .num
 abbrev pub stateOf : Session → State
 stateOf s = stateWith (s .run) (take (s .count) (s .line))
 
--- Counts within their rooms. Any record may be handed in; those of the code's own making are sound
-pub record SoundRun (run : Run) : Type 0 where
+-- Counts within their rooms. Any record may be handed in; those of the code's own making are bounded
+pub record BoundedRun (run : Run) : Type 0 where
   pub numbered : run .number ≤ mostLines + 1
   pub withinR : run .filled ≤ 128
 
-pub record Sound (s : Session) : Type 0 where
-  pub soundRun : SoundRun (s .run)
+pub record Bounded (s : Session) : Type 0 where
+  pub boundedRun : BoundedRun (s .run)
   pub withinLine : s .count ≤ longestLine
-
--- Our own choice: room for more than any one line prints
-abbrev pub lineRoom : ℕ
-lineRoom = 256
 
 -- How many bytes of a piece are taken where `room` bytes are lent: one more while the room left holds what any line prints, and all of them
 -- once the run has ended
@@ -74,14 +51,14 @@ abbrev pub GoesOn : Type 0
 GoesOn = (room b : ℕ) (bs : List ℕ) (s : State) → lineRoom ≤ room → 0 < takes room (b ∷ bs) s
 
 -- What `feed` promises: how much of the piece it took, what it printed, the state after it, and all of the lent bytes. A session that is not
--- sound takes nothing
+-- bounded takes nothing
 pub record Feeds (s : Session) (piece before : List ℕ) (session : Session) (taken written : ℕ) (after : List ℕ) : Type 0 where
-  pub takenIs : Sound s → taken ≡ takes (length before) piece (stateOf s)
-  pub takesNothing : (Sound s → ⊥) → taken ≡ 0
+  pub takenIs : Bounded s → taken ≡ takes (length before) piece (stateOf s)
+  pub takesNothing : (Bounded s → ⊥) → taken ≡ 0
   pub stateIs : stateOf session ≡ fed (take taken piece) (stateOf s) .state
   pub writtenIs : written ≡ length (fed (take taken piece) (stateOf s) .printed)
   pub bytesAre : after ≡ fed (take taken piece) (stateOf s) .printed ++ drop written before
-  pub staysSound : Sound s → Sound session
+  pub staysBounded : Bounded s → Bounded session
 
 -- Our own choice: with fewer lent bytes `finish` writes nothing and says so
 abbrev pub finishRoom : ℕ

@@ -2,20 +2,25 @@
 ghost use mathlib.Core.Path.{_≡_};
 ghost use Prim.Native.Nat.{_≤_};
 ghost use lib.ListN.{take};
-ghost use Rattle.replay.specs.declared.Next.the-variants as next;
+ghost use Rattle.lines.specs.declared.Next.the-variants as next;
 ghost use Rattle.replay.specs.Replay as replay;
-ghost use Rattle.replay.specs.Session.{expectedOf};
-ghost use Rattle.replay.specs.Inner.{Ready, Closing, ClosesLine, moved, lineOf, eventOf};
-use crate::Awaited;
+ghost use Prim.Native.Nat.{_+_};
+ghost use lib.ListN.{length};
+ghost use Rattle.events.specs.Event.{malformedText};
+ghost use Rattle.events.specs.Promises.{eventOf};
+ghost use Rattle.lines.specs.Lines.{setsUp, brings};
+ghost use Rattle.lines.specs.Promises.{lineOf};
+ghost use Rattle.replay.specs.Feeding.{fedTo, ended};
+ghost use Rattle.replay.specs.Session.{expectedOf, BoundedRun};
+ghost use Rattle.replay.specs.Closing.{Ready, Closing, Closes, ClosesLine, moved};
 use crate::MOST_LINES;
-use crate::Next;
 use crate::Progress;
 use crate::Run;
-use crate::answers;
-use crate::events;
-use crate::events::Event;
-use crate::lines;
-use crate::lines::Line;
+use events::Event;
+use events::printing;
+use lines::Awaited;
+use lines::Line;
+use lines::Next;
 use unit::Reply;
 use unit::TagUnit;
 
@@ -25,7 +30,7 @@ pub fn close(run: Run, line: &[u8], out: &mut [u8], at: usize) -> Progress
     ensures { λ r. ⌜ ClosesLine (replay.judged (expectedOf run) (run .number) (now (line .entry))) run at (now (out .entry)) (r .run) (r .written) (now (out .exit)) ⌝ }
 {
     if MOST_LINES < run.number {
-        return answers::breaks(run, out, at);
+        return breaks(run, out, at);
     }
     let mut bytes = [0u8; 128];
     let next = run.next;
@@ -58,7 +63,7 @@ fn act(
             read.components = number;
             follow(read, Awaited::Volume, at)
         }
-        Line::Volume => settle(run, number, out, at),
+        Line::Volume => create(run, number, out, at),
         Line::Follows(awaited) => follow(run, awaited, at),
         Line::R => {
             let mut read = run;
@@ -67,7 +72,7 @@ fn act(
             follow(read, Awaited::Id, at)
         }
         Line::Brings(event) => bring(run, event, number, &bytes[..count], out, at),
-        Line::Breaks => answers::breaks(run, out, at),
+        Line::Breaks => breaks(run, out, at),
     }
 }
 
@@ -102,9 +107,9 @@ fn follow(run: Run, awaited: Awaited, at: usize) -> Progress
 }
 
 // The settings are read: a new unit, or its refusal, which ends the run.
-fn settle(run: Run, selectable: u32, out: &mut [u8], at: usize) -> Progress
+fn create(run: Run, selectable: u32, out: &mut [u8], at: usize) -> Progress
     requires { ⌜ Ready run at (now out) ⌝ }
-    ensures { λ r. ⌜ ClosesLine (replay.settles (run .power) (run .components) selectable) run at (now (out .entry)) (r .run) (r .written) (now (out .exit)) ⌝ }
+    ensures { λ r. ⌜ ClosesLine (setsUp (run .power) (run .components) selectable) run at (now (out .entry)) (r .run) (r .written) (now (out .exit)) ⌝ }
 {
     let step = tag::new_unit(run.power, run.components, selectable);
     let reply = step.reply;
@@ -117,7 +122,7 @@ fn settle(run: Run, selectable: u32, out: &mut [u8], at: usize) -> Progress
             }
         }
         Reply::Refused(refusal) => {
-            let written = answers::refused(out, at, refusal);
+            let written = printing::refused(out, at, refusal);
             let mut after = run;
             after.ended = true;
             Progress {
@@ -131,7 +136,7 @@ fn settle(run: Run, selectable: u32, out: &mut [u8], at: usize) -> Progress
 // A whole event.
 fn bring(run: Run, event: Event, number: u32, bytes: &[u8], out: &mut [u8], at: usize) -> Progress
     requires { ⌜ Ready run at (now out) ⌝ }
-    ensures { λ r. ⌜ ClosesLine (replay.brings (eventOf event number (take (run .filled) (run .r)) (now (bytes .entry)))) run at (now (out .entry)) (r .run) (r .written) (now (out .exit)) ⌝ }
+    ensures { λ r. ⌜ ClosesLine (brings (eventOf event number (take (run .filled) (run .r)) (now (bytes .entry)))) run at (now (out .entry)) (r .run) (r .written) (now (out .exit)) ⌝ }
 {
     let u = run.unit;
     let r = run.r;
@@ -141,5 +146,20 @@ fn bring(run: Run, event: Event, number: u32, bytes: &[u8], out: &mut [u8], at: 
     Progress {
         run: advance(run, Next::Event, unit),
         written: done.written,
+    }
+}
+
+// A run that ends with a malformed line.
+pub fn breaks(run: Run, out: &mut [u8], at: usize) -> Progress
+    requires { ⌜ (at + 256 ≤ length (now out)) × BoundedRun run ⌝ }
+    ensures { λ r. ⌜ Closes (fedTo ended (malformedText (run .number))) at (now (out .entry)) (r .run) (r .written) (now (out .exit)) ⌝ }
+{
+    let number = run.number;
+    let written = printing::malformed(out, at, number);
+    let mut after = run;
+    after.ended = true;
+    Progress {
+        run: after,
+        written,
     }
 }

@@ -8,17 +8,17 @@ ghost use mathlib.Core.Bool.{cond};
 ghost use mathlib.Core.List.{[]};
 ghost use lib.Dec.{eqb};
 ghost use lib.ListN.{length};
-ghost use Rattle.notation.specs.Written.{Puts};
-ghost use Rattle.replay.specs.Event.{malformedText};
-ghost use Rattle.replay.specs.Session.{stateOf, finishRoom, Sound, Feeds, Finishes};
-ghost use Rattle.replay.specs.Inner.{SoundBy, Awaits, Takes};
+ghost use Rattle.notation.specs.Written.{PutsText};
+ghost use Rattle.events.specs.Event.{malformedText};
+ghost use Rattle.replay.specs.Session.{stateOf, finishRoom, Bounded, Feeds, Finishes};
+ghost use Rattle.replay.specs.Closing.{BoundedBy, Awaits, Takes};
+use events::printing;
+use lines::Awaited;
+use lines::Next;
 use unit::TagUnit;
 use unit::change::no_unit;
 
-mod answers;
 mod closing;
-mod events;
-mod lines;
 
 // The longest line, without its newline.
 pub const LONGEST_LINE: usize = 256;
@@ -30,27 +30,6 @@ const LAST_NUMBER: u32 = MOST_LINES + 1;
 
 // Room that holds what any one line prints.
 pub const LINE_ROOM: usize = 256;
-
-// A line of the settings or of an event.
-pub enum Awaited {
-    Power,
-    Components,
-    Volume,
-    Nonce,
-    Data,
-    Tenths,
-    On,
-    Level,
-    KeyBytes,
-    R,
-    Id,
-}
-
-// Which line is expected: an event's name, or one inside the settings or an event.
-pub enum Next {
-    Event,
-    Inside(Awaited),
-}
 
 // A run between two lines: what is expected, the number of the line that is to come, what was read before it, and the unit.
 pub struct Run {
@@ -105,7 +84,7 @@ pub const FINISH_ROOM: usize = 64;
 
 // A session before its first byte.
 pub fn begin() -> Session
-    ensures { λ r. ⌜ (stateOf r ≡ first) × Sound r ⌝ }
+    ensures { λ r. ⌜ (stateOf r ≡ first) × Bounded r ⌝ }
 {
     Session {
         run: Run {
@@ -128,7 +107,7 @@ pub fn begin() -> Session
 pub fn feed(s: Session, piece: &[u8], out: &mut [u8]) -> Fed
     ensures { λ r. ⌜ Feeds s (now (piece .entry)) (now (out .entry)) (r .session) (r .taken) (r .written) (now (out .exit)) ⌝ }
 {
-    if sound(s) {
+    if bounded(s) {
         return take(s, piece, out);
     }
     Fed {
@@ -138,8 +117,8 @@ pub fn feed(s: Session, piece: &[u8], out: &mut [u8]) -> Fed
     }
 }
 
-fn sound(s: Session) -> bool
-    ensures { λ r. ⌜ SoundBy s r ⌝ }
+fn bounded(s: Session) -> bool
+    ensures { λ r. ⌜ BoundedBy s r ⌝ }
 {
     let run = s.run;
     if LONGEST_LINE < s.count {
@@ -153,7 +132,7 @@ fn sound(s: Session) -> bool
 
 // The bytes of a piece, one after another.
 fn take(start: Session, piece: &[u8], out: &mut [u8]) -> Fed
-    requires { ⌜ Sound start ⌝ }
+    requires { ⌜ Bounded start ⌝ }
     ensures { λ r. ⌜ Feeds start (now (piece .entry)) (now (out .entry)) (r .session) (r .taken) (r .written) (now (out .exit)) ⌝ }
 {
     let mut session = start;
@@ -202,7 +181,7 @@ fn end_line(s: Session, b: u8, out: &mut [u8], at: usize) -> After
         let closed = closing::close(run, &line[..count], out, at);
         return opened(closed, line);
     }
-    opened(answers::breaks(run, out, at), line)
+    opened(closing::breaks(run, out, at), line)
 }
 
 // The next line, with nothing of it read yet.
@@ -235,17 +214,17 @@ pub fn finish(s: Session, out: &mut [u8]) -> Finished
     let next = run.next;
     match next {
         Next::Event => Finished::Wrote(unclosed(out, s.count, run.number)),
-        Next::Inside(_) => Finished::Wrote(answers::malformed(out, 0, run.number)),
+        Next::Inside(_) => Finished::Wrote(printing::malformed(out, 0, run.number)),
     }
 }
 
 // What stands after the last newline, where an event could begin: nothing, or a line that is not closed.
 fn unclosed(out: &mut [u8], count: usize, number: u32) -> usize
     requires { ⌜ finishRoom ≤ length (now out) ⌝ }
-    ensures { λ r. ⌜ Puts (cond (eqb count 0) [] (malformedText number)) 0 (now (out .entry)) r (now (out .exit)) ⌝ }
+    ensures { λ r. ⌜ PutsText (cond (eqb count 0) [] (malformedText number)) 0 (now (out .entry)) r (now (out .exit)) ⌝ }
 {
     if count == 0 {
         return 0;
     }
-    answers::malformed(out, 0, number)
+    printing::malformed(out, 0, number)
 }

@@ -30,16 +30,16 @@ pub fn from_path(path: &[u8]) {
         os::fail(path);
         return;
     }
-    from_descriptor(fd);
+    from_descriptor(fd, path);
     libc::close(fd);
 }
 
-// Replays an open file, from where it stands to its end, or until the run has ended.
-pub fn from_descriptor(fd: i32) {
+// Replays an open file, from where it stands to its end, or until the run has ended. A message about it says `name`.
+pub fn from_descriptor(fd: i32, name: &[u8]) {
     let mut session = replay::begin();
     let mut left = MOST_BYTES;
     while 0 < left {
-        let turn = read_once(fd, session);
+        let turn = read_once(fd, name, session);
         session = turn.session;
         let then = turn.then;
         match then {
@@ -55,7 +55,7 @@ pub fn from_descriptor(fd: i32) {
 }
 
 // Reads once and feeds what came. An interrupted read is tried again.
-fn read_once(fd: i32, session: Session) -> Turn {
+fn read_once(fd: i32, name: &[u8], session: Session) -> Turn {
     let mut buf = io::large_buffer();
     let got = libc::read(fd, &mut buf);
     if got < 0 {
@@ -65,7 +65,7 @@ fn read_once(fd: i32, session: Session) -> Turn {
                 then: Then::Read,
             };
         }
-        os::fail(b"read");
+        os::fail(name);
         return stopped(session);
     }
     if got == 0 {

@@ -11,7 +11,7 @@ use borrow.Author.Tests.{ne-eqb}
 use Rattle.wire.specs.Shape.{Request, request, parsed, sizeLegal, shapeLegal}
 use Rattle.wire.specs.declared.Head.{Head}
 use Rattle.unit.specs.Change.{spent}
-use Rattle.unit.specs.Refusals.{number}
+use Rattle.unit.specs.Refusals.{refusalNumber}
 use Rattle.unit.specs.Outcome.{Answers}
 use Rattle.unit.specs.WellFormed.{wellFormed}
 use Rattle.unit.specs.declared.TagUnit.{TagUnit}
@@ -19,7 +19,7 @@ use Rattle.unit.specs.declared.Step.{Step}
 use Rattle.unit.specs.declared.Reply.{Reply}
 use Rattle.unit.specs.declared.Refusal.{Refusal}
 use Rattle.unit.proofs.Kept.{spent-kept}
-use Rattle.authentication.specs.Judgement.{rejects, notAuthenticated, invalidValue, settled}
+use Rattle.authentication.specs.Judgement.{rejects, notAuthenticated, invalidValue, concluded}
 use Rattle.authentication.specs.declared.Verdict.{Verdict}
 use Rattle.authentication.specs.Promises.{Ready, Judges, judgementOf}
 use Rattle.authentication.proofs.Judged.{refusal}
@@ -57,7 +57,7 @@ module _ (u : TagUnit) (w : List ℕ) where
   -- The whole write, on the unit with its nonce spent
   module _ {after : TagUnit} (changed : after ≡ spent u) where
     pub write-refused : (r : Step) (x : Refusal) (lent : List ℕ) → (r .unit ≡ after) × (r .reply ≡ Reply.Refused x)
-        → judged u w ≡ rejects (number x) → Answers (written u w) (r .unit) (r .reply) lent lent
+        → judged u w ≡ rejects (refusalNumber x) → Answers (written u w) (r .unit) (r .reply) lent lent
     unfolding written
     write-refused r x lent ends is = refusal (spent u) (judged u w) r x lent (ends .0 ∙ changed, ends .1) is
 
@@ -86,7 +86,7 @@ module _ (u : TagUnit) (w : List ℕ) where
 
       pub write-judged : (r : Step) {v : Verdict} {before last : List ℕ} → judged u w ≡ byId (spent u) (parsed w)
           → Judges after (h .id) (byId after (request h (take (length w - headSize) (drop headSize w)))) v
-          → Answers (settled after (judgementOf after (h .id) v (v .ruling))) (r .unit) (r .reply) before last
+          → Answers (concluded after (judgementOf after (h .id) v (v .ruling))) (r .unit) (r .reply) before last
           → Answers (written u w) (r .unit) (r .reply) before last
       unfolding written
       write-judged r is p ends =

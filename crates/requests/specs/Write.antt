@@ -7,7 +7,7 @@ use Rattle.wire.specs.Shape.{Request, parsed, shapeLegal}
 use Rattle.unit.specs.declared.TagUnit.{TagUnit}
 use Rattle.unit.specs.Change.{spent}
 use Rattle.unit.specs.Outcome.{Outcome}
-use Rattle.authentication.specs.Judgement.{Judgement, notAuthenticated, invalidValue, unless, settled}
+use Rattle.authentication.specs.Judgement.{Judgement, notAuthenticated, invalidValue, unless, concluded}
 use Rattle.provisioning.specs.Provisioning.{readParameters, readState, setKey, clearKey, recoverKey}
 use Rattle.ringing.specs.Ringing.{ring, readSound}
 use Rattle.ringing.specs.Protecting.{protect, unprotect}
@@ -42,4 +42,4 @@ judged u w =
 
 -- "Every write that passes 6 and 2 spends the live nonce, whatever follows"
 unfoldable pub written : TagUnit → List ℕ → Outcome
-written u w = settled (spent u) (judged u w)
+written u w = concluded (spent u) (judged u w)

@@ -101,5 +101,5 @@ pub fn write(u: TagUnit, w: &[u8], answer: &mut [u8]) -> Step
         return end::refuse(after, Refusal::NotAuthenticated);
     }
     let v = by_id(after, h, &w[HEAD_SIZE..]);
-    answering::settle(after, v, h.id, answer)
+    answering::conclude(after, v, h.id, answer)
 }

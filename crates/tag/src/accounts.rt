@@ -5,7 +5,7 @@ ghost use Prim.Native.Nat.{_<_};
 ghost use lib.ListN.{length};
 ghost use Rattle.sizes.specs.Sizes.{accountKeySize, mostKeys};
 ghost use Rattle.unit.specs.Change.{withNewKey};
-ghost use Rattle.unit.specs.Outcome.{Settles};
+ghost use Rattle.unit.specs.Outcome.{Completes};
 ghost use Rattle.tables.specs.Rows.{among};
 ghost use Rattle.unit.specs.WellFormed.{accountsLegal, heldKeys};
 ghost use Rattle.tag.specs.Own.{keeping};
@@ -45,7 +45,7 @@ fn with_new_key(a: Accounts, key: &[u8]) -> Accounts
 // Adds a key to a well-formed unit.
 pub fn added(u: TagUnit, key: &[u8]) -> Step
     requires { ⌜ accountsLegal (u .accounts) ≡ true ⌝ }
-    ensures { λ r. ⌜ Settles (keeping (now (key .entry)) u) (r .unit) (r .reply) ⌝ }
+    ensures { λ r. ⌜ Completes (keeping (now (key .entry)) u) (r .unit) (r .reply) ⌝ }
 {
     if key.len() != ACCOUNT_KEY_SIZE {
         return end::refuse(u, Refusal::WrongAccountKey);

@@ -1,5 +1,5 @@
 // Lending an identifier.
-ghost use Rattle.unit.specs.Outcome.{Settles};
+ghost use Rattle.unit.specs.Outcome.{Completes};
 ghost use Rattle.tag.specs.Own.{lending};
 use sizes::IDENTIFIER_SIZE;
 use unit::Identifier;
@@ -11,7 +11,7 @@ use unit::standing;
 
 // Lends an identifier to a well-formed unit, for the current window.
 pub fn lent(u: TagUnit, r: &[u8], id: &[u8]) -> Step
-    ensures { λ s. ⌜ Settles (lending (now (r .entry)) (now (id .entry)) u) (s .unit) (s .reply) ⌝ }
+    ensures { λ s. ⌜ Completes (lending (now (r .entry)) (now (id .entry)) u) (s .unit) (s .reply) ⌝ }
 {
     if r.len() != IDENTIFIER_SIZE {
         return end::refuse(u, Refusal::OutOfRange);

@@ -6,7 +6,7 @@ ghost use lib.ListN.{length};
 ghost use Rattle.unit.specs.declared.Reply.{Reply};
 ghost use Rattle.unit.specs.declared.Refusal.{Refusal};
 ghost use Rattle.unit.specs.Change.{noUnit};
-ghost use Rattle.unit.specs.Outcome.{Answers, Settles};
+ghost use Rattle.unit.specs.Outcome.{Answers, Completes};
 ghost use Rattle.time.specs.Passing.{Passes};
 ghost use Rattle.tag.specs.Calls.{newUnit, call, elapsed as elapsedOf};
 ghost use Rattle.tag.specs.Calls as of;
@@ -41,7 +41,7 @@ fn no_unit() -> Step
 
 // A new unit, fresh, with its settings. Refusals: 1 for settings out of range; the record given back is then not well formed.
 pub fn new_unit(power: i32, components: u32, selectable: u32) -> Step
-    ensures { λ r. ⌜ Settles (newUnit power components selectable) (r .unit) (r .reply) ⌝ }
+    ensures { λ r. ⌜ Completes (newUnit power components selectable) (r .unit) (r .reply) ⌝ }
 {
     if (MOST_COMPONENTS as u32) < components {
         return no_unit();
@@ -114,7 +114,7 @@ pub fn elapsed(u: TagUnit, tenths: u32, answer: &mut [u8]) -> Passed
 
 // Pairing mode on or off. Refusal: 2.
 pub fn pairing(u: TagUnit, on: bool) -> Step
-    ensures { λ r. ⌜ Settles (call (of.pairing on) 0 u) (r .unit) (r .reply) ⌝ }
+    ensures { λ r. ⌜ Completes (call (of.pairing on) 0 u) (r .unit) (r .reply) ⌝ }
 {
     if well_formed::well_formed(u) {
         let mut after = u;
@@ -126,7 +126,7 @@ pub fn pairing(u: TagUnit, on: bool) -> Step
 
 // The battery level, 0 to 3. Refusals: 2, 1.
 pub fn battery(u: TagUnit, level: u32) -> Step
-    ensures { λ r. ⌜ Settles (call (of.battery level) 0 u) (r .unit) (r .reply) ⌝ }
+    ensures { λ r. ⌜ Completes (call (of.battery level) 0 u) (r .unit) (r .reply) ⌝ }
 {
     if well_formed::well_formed(u) {
         if level <= (HIGHEST_BATTERY as u32) {
@@ -141,7 +141,7 @@ pub fn battery(u: TagUnit, level: u32) -> Step
 
 // Adds an account key; one already held changes nothing. Refusals: 2, 4.
 pub fn account_key(u: TagUnit, key: &[u8]) -> Step
-    ensures { λ r. ⌜ Settles (call (of.accountKey (now (key .entry))) 0 u) (r .unit) (r .reply) ⌝ }
+    ensures { λ r. ⌜ Completes (call (of.accountKey (now (key .entry))) 0 u) (r .unit) (r .reply) ⌝ }
 {
     if well_formed::well_formed(u) {
         return accounts::added(u, key);
@@ -151,7 +151,7 @@ pub fn account_key(u: TagUnit, key: &[u8]) -> Step
 
 // Lends the identifier for the current window, with its r. Refusals: 2, 1, 5.
 pub fn lend_identifier(u: TagUnit, r: &[u8], id: &[u8]) -> Step
-    ensures { λ s. ⌜ Settles (call (of.identifier (now (r .entry)) (now (id .entry))) 0 u) (s .unit) (s .reply) ⌝ }
+    ensures { λ s. ⌜ Completes (call (of.identifier (now (r .entry)) (now (id .entry))) 0 u) (s .unit) (s .reply) ⌝ }
 {
     if well_formed::well_formed(u) {
         return identifier::lent(u, r, id);

@@ -8,19 +8,19 @@ use Rattle.laws.proofs.Answered.{wrote}
 use Rattle.unit.specs.declared.TagUnit.{TagUnit}
 use Rattle.unit.specs.declared.Refusal.{Refusal}
 use Rattle.unit.specs.declared.Reply.{Reply}
-use Rattle.unit.specs.Refusals.{number, endOf}
-use Rattle.unit.specs.Outcome.{giving, refusing, Settles, Answers}
+use Rattle.unit.specs.Refusals.{refusalNumber, endOf}
+use Rattle.unit.specs.Outcome.{giving, refusing, Completes, Answers}
 
 -- What `refuse` and `accept` give
 module _ {u after : TagUnit} {reply : Reply} where
-  pub refused-settles : {r : Refusal} → (after ≡ u) × (reply ≡ Reply.Refused r) → Settles (refusing (number r) u) after reply
-  refused-settles h = record { unitIs = h .0; endIs = ap endOf (h .1) }
+  pub refused-completes : {r : Refusal} → (after ≡ u) × (reply ≡ Reply.Refused r) → Completes (refusing (refusalNumber r) u) after reply
+  refused-completes h = record { unitIs = h .0; endIs = ap endOf (h .1) }
 
-  pub done-settles : (after ≡ u) × (reply ≡ Reply.Done 0) → Settles (giving [] u) after reply
-  done-settles h = record { unitIs = h .0; endIs = ap endOf (h .1) }
+  pub done-completes : (after ≡ u) × (reply ≡ Reply.Done 0) → Completes (giving [] u) after reply
+  done-completes h = record { unitIs = h .0; endIs = ap endOf (h .1) }
 
   pub refused-answers : {r : Refusal} (lent : List ℕ) → (after ≡ u) × (reply ≡ Reply.Refused r)
-      → Answers (refusing (number r) u) after reply lent lent
+      → Answers (refusing (refusalNumber r) u) after reply lent lent
   unfolding lentAfter
   refused-answers lent h = record { unitIs = h .0; endIs = ap endOf (h .1); bytesAre = refl }
 

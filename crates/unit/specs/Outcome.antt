@@ -33,7 +33,7 @@ unfoldable pub answering : ℕ → TagUnit → Outcome → Outcome
 answering room u own = cond (ltb room answerRoom) (refusing 6 u) (formed u own)
 
 -- What a call without answer bytes promises
-pub record Settles (o : Outcome) (unit : TagUnit) (reply : Reply) : Type 0 where
+pub record Completes (o : Outcome) (unit : TagUnit) (reply : Reply) : Type 0 where
   pub unitIs : unit ≡ o .unit
   pub endIs : endOf reply ≡ ending (o .result)
 

@@ -9,16 +9,16 @@ use Rattle.unit.specs.declared.Reply.the-variants.{Done, Refused}
 
 -- The number of each case of the code's enum. The definitions of the calls say the paper's number themselves, at each place where it is
 -- given; every promise holds the two against each other
-abbrev pub number : Refusal → ℕ
-number NotAuthenticated = 0x80
-number InvalidValue = 0x81
-number NoConsent = 0x82
-number OutOfRange = 1
-number NotWellFormed = 2
-number WrongNonce = 3
-number WrongAccountKey = 4
-number NoFrame = 5
-number NoRoom = 6
+abbrev pub refusalNumber : Refusal → ℕ
+refusalNumber NotAuthenticated = 0x80
+refusalNumber InvalidValue = 0x81
+refusalNumber NoConsent = 0x82
+refusalNumber OutOfRange = 1
+refusalNumber NotWellFormed = 2
+refusalNumber WrongNonce = 3
+refusalNumber WrongAccountKey = 4
+refusalNumber NoFrame = 5
+refusalNumber NoRoom = 6
 
 -- How a call ended: with a count of answer bytes written, or with the number of a refusal
 pub data End : Type 0 where
@@ -27,7 +27,7 @@ pub data End : Type 0 where
 
 abbrev pub endOf : Reply → End
 endOf (Done n) = wrote n
-endOf (Refused r) = refused (number r)
+endOf (Refused r) = refused (refusalNumber r)
 
 abbrev pub ending : Result → End
 ending (gives answer) = wrote (length answer)

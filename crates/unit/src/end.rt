@@ -1,7 +1,7 @@
 // The end of a call, beside the unit after it.
 ghost use mathlib.Core.Path.{_≡_};
 ghost use Rattle.unit.specs.declared.Reply.{Reply};
-ghost use Rattle.unit.specs.Refusals.{number as numberOf};
+ghost use Rattle.unit.specs.Refusals.{refusalNumber};
 use crate::Refusal;
 use crate::Reply;
 use crate::Step;
@@ -28,8 +28,8 @@ pub fn accept(u: TagUnit, count: usize) -> Step
 }
 
 // The number of a refusal in the paper's list.
-pub fn number(refusal: Refusal) -> u8
-    ensures { λ r. ⌜ r ≡ numberOf refusal ⌝ }
+pub fn refusal_number(refusal: Refusal) -> u8
+    ensures { λ r. ⌜ r ≡ refusalNumber refusal ⌝ }
 {
     match refusal {
         Refusal::NotAuthenticated => 0x80,

@@ -1,11 +1,11 @@
 // Published vectors, run through the public calls of the primitives. What is printed is held to the publishers' values in `stdout`.
-mod cipher;
-mod cipher256;
-mod hash;
+mod aes128;
+mod aes256;
 mod print;
+mod sha256_and_hmac;
 
 fn main() {
-    hash::run();
-    cipher::run();
-    cipher256::run();
+    sha256_and_hmac::run();
+    aes128::run();
+    aes256::run();
 }

@@ -1,6 +1,6 @@
 -- `tag_account_key` meets its contract: what the tag and the end of the call promise.
 use Rattle.tag.specs.Calls.{accountKey}
-use Rattle.firmware.proofs.Exporting.{settles-whole, settles-exports}
+use Rattle.firmware.proofs.Exporting.{completes-whole, completes-exports}
 use borrow.Author.Needs.{needs}
 use Rattle.firmware.proofs.tag_account_key.Statement.{statement}
 use Rattle.firmware.proofs.tag_account_key.Tie as tie
@@ -16,7 +16,7 @@ finish-requires c κs =
     let account-key-at = c .before .before in
     let decode-at = account-key-at .before in
     let start = decode-at .before .before .before .before in
-    settles-whole (accountKey (start .args .key .now)) 0 (start .args .bytes .now) (decode-at .decode .ensures) (account-key-at .account-key .ensures)
+    completes-whole (accountKey (start .args .key .now)) 0 (start .args .bytes .now) (decode-at .decode .ensures) (account-key-at .account-key .ensures)
 
 same-length : tie.Need-same-length
 same-length c = search needs
@@ -27,7 +27,7 @@ returns c =
     let account-key-at = finish-at .before .before .before in
     let decode-at = account-key-at .before in
     let start = decode-at .before .before .before .before in
-    settles-exports (accountKey (start .args .key .now)) 0 (start .args .bytes .now) (decode-at .decode .ensures) (account-key-at .account-key .ensures) (finish-at .finish .ensures)
+    completes-exports (accountKey (start .args .key .now)) 0 (start .args .bytes .now) (decode-at .decode .ensures) (account-key-at .account-key .ensures) (finish-at .finish .ensures)
 
 pub tag-account-key-spec : {M : Type 1} → statement M
 tag-account-key-spec =

@@ -1,6 +1,6 @@
 -- `tag_battery` meets its contract: what the tag and the end of the call promise.
 use Rattle.tag.specs.Calls.{battery}
-use Rattle.firmware.proofs.Exporting.{settles-whole, settles-exports}
+use Rattle.firmware.proofs.Exporting.{completes-whole, completes-exports}
 use borrow.Author.Needs.{needs}
 use Rattle.firmware.proofs.tag_battery.Statement.{statement}
 use Rattle.firmware.proofs.tag_battery.Tie as tie
@@ -16,7 +16,7 @@ finish-requires c κs =
     let battery-at = c .before .before in
     let decode-at = battery-at .before in
     let start = decode-at .before .before .before in
-    settles-whole (battery (start .args .level)) 0 (start .args .bytes .now) (decode-at .decode .ensures) (battery-at .battery .ensures)
+    completes-whole (battery (start .args .level)) 0 (start .args .bytes .now) (decode-at .decode .ensures) (battery-at .battery .ensures)
 
 same-length : tie.Need-same-length
 same-length c = search needs
@@ -27,7 +27,7 @@ returns c =
     let battery-at = finish-at .before .before .before in
     let decode-at = battery-at .before in
     let start = decode-at .before .before .before in
-    settles-exports (battery (start .args .level)) 0 (start .args .bytes .now) (decode-at .decode .ensures) (battery-at .battery .ensures) (finish-at .finish .ensures)
+    completes-exports (battery (start .args .level)) 0 (start .args .bytes .now) (decode-at .decode .ensures) (battery-at .battery .ensures) (finish-at .finish .ensures)
 
 pub tag-battery-spec : {M : Type 1} → statement M
 tag-battery-spec =

@@ -1,6 +1,6 @@
 -- `tag_lend_identifier` meets its contract: what the tag and the end of the call promise.
 use Rattle.tag.specs.Calls.{identifier}
-use Rattle.firmware.proofs.Exporting.{settles-whole, settles-exports}
+use Rattle.firmware.proofs.Exporting.{completes-whole, completes-exports}
 use borrow.Author.Needs.{needs}
 use Rattle.firmware.proofs.tag_lend_identifier.Statement.{statement}
 use Rattle.firmware.proofs.tag_lend_identifier.Tie as tie
@@ -16,7 +16,7 @@ finish-requires c κs =
     let lend-identifier-at = c .before .before in
     let decode-at = lend-identifier-at .before in
     let start = decode-at .before .before .before .before .before in
-    settles-whole (identifier (start .args .r .now) (start .args .id .now)) 0 (start .args .bytes .now) (decode-at .decode .ensures) (lend-identifier-at .lend-identifier .ensures)
+    completes-whole (identifier (start .args .r .now) (start .args .id .now)) 0 (start .args .bytes .now) (decode-at .decode .ensures) (lend-identifier-at .lend-identifier .ensures)
 
 same-length : tie.Need-same-length
 same-length c = search needs
@@ -27,7 +27,7 @@ returns c =
     let lend-identifier-at = finish-at .before .before .before in
     let decode-at = lend-identifier-at .before in
     let start = decode-at .before .before .before .before .before in
-    settles-exports (identifier (start .args .r .now) (start .args .id .now)) 0 (start .args .bytes .now) (decode-at .decode .ensures) (lend-identifier-at .lend-identifier .ensures) (finish-at .finish .ensures)
+    completes-exports (identifier (start .args .r .now) (start .args .id .now)) 0 (start .args .bytes .now) (decode-at .decode .ensures) (lend-identifier-at .lend-identifier .ensures) (finish-at .finish .ensures)
 
 pub tag-lend-identifier-spec : {M : Type 1} → statement M
 tag-lend-identifier-spec =

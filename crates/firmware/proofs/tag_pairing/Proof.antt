@@ -2,7 +2,7 @@
 use mathlib.Core.Bool.{not}
 use lib.Dec.{eqb}
 use Rattle.tag.specs.Calls.{pairing}
-use Rattle.firmware.proofs.Exporting.{settles-whole, settles-exports}
+use Rattle.firmware.proofs.Exporting.{completes-whole, completes-exports}
 use borrow.Author.Needs.{needs}
 use Rattle.firmware.proofs.tag_pairing.Statement.{statement}
 use Rattle.firmware.proofs.tag_pairing.Tie as tie
@@ -18,7 +18,7 @@ finish-requires c κs =
     let pairing-at = c .before .before in
     let decode-at = pairing-at .before in
     let start = decode-at .before .before .before in
-    settles-whole (pairing (not (eqb (start .args .on) 0))) 0 (start .args .bytes .now) (decode-at .decode .ensures) (pairing-at .pairing .ensures)
+    completes-whole (pairing (not (eqb (start .args .on) 0))) 0 (start .args .bytes .now) (decode-at .decode .ensures) (pairing-at .pairing .ensures)
 
 same-length : tie.Need-same-length
 same-length c = search needs
@@ -29,7 +29,7 @@ returns c =
     let pairing-at = finish-at .before .before .before in
     let decode-at = pairing-at .before in
     let start = decode-at .before .before .before in
-    settles-exports (pairing (not (eqb (start .args .on) 0))) 0 (start .args .bytes .now) (decode-at .decode .ensures) (pairing-at .pairing .ensures) (finish-at .finish .ensures)
+    completes-exports (pairing (not (eqb (start .args .on) 0))) 0 (start .args .bytes .now) (decode-at .decode .ensures) (pairing-at .pairing .ensures) (finish-at .finish .ensures)
 
 pub tag-pairing-spec : {M : Type 1} → statement M
 tag-pairing-spec =

@@ -14,21 +14,21 @@ line-long c = search needs
 array-share-prefix-line : tie.Need-array-share-prefix-line
 array-share-prefix-line c =
     let long = line-long (c .before .before .before .before) in
-    omega (arith, c .before .before .before .before .pre .0 .sound .withinLine)
+    omega (arith, c .before .before .before .before .pre .0 .bounded .withinLine)
 
 slice-aggregate-close : tie.Need-slice-aggregate-close
 slice-aggregate-close c =
     let s = c .before .before .before .before .before .args .s in
     let long = line-long (c .before .before .before .before .before) in
-    sym (length-take-le (s .count) (s .line) (omega (arith, c .before .before .before .before .before .pre .0 .sound .withinLine)))
+    sym (length-take-le (s .count) (s .line) (omega (arith, c .before .before .before .before .before .pre .0 .bounded .withinLine)))
 
 close-requires : tie.Need-close-requires
 close-requires c κs =
     let s = c .before .before .before .before .before .before .args .s in
     let ready = c .before .before .before .before .before .before .pre .0 in
     let long = line-long (c .before .before .before .before .before .before) in
-    let size = length-take-le (s .count) (s .line) (omega (arith, ready .sound .withinLine)) in
-    record { going = ready .going; sound = ready .sound .soundRun; short = omega (arith, size, ready .sound .withinLine); room = omega (arith, ready .room) }
+    let size = length-take-le (s .count) (s .line) (omega (arith, ready .bounded .withinLine)) in
+    record { going = ready .going; bounded = ready .bounded .boundedRun; short = omega (arith, size, ready .bounded .withinLine); room = omega (arith, ready .room) }
 
 opened-requires : tie.Need-opened-requires
 opened-requires c κs = search needs
@@ -41,7 +41,7 @@ returns c =
     let start = c .before .before .before .before .before .before .before .before .before .before in
     let ready = start .pre .0 in
     rw (c .opened .ensures)
-    (takes-line (byte-closes (start .args .s) (start .args .b) (ready .going) (line-long start) (ready .sound .withinLine) (c .before .before .before .before .before .before .if1 .taken))
+    (takes-line (byte-closes (start .args .s) (start .args .b) (ready .going) (line-long start) (ready .bounded .withinLine) (c .before .before .before .before .before .before .if1 .taken))
     (c .before .before .before .close .ensures))
 
 breaks-requires : tie.Need-breaks-requires
@@ -59,7 +59,7 @@ returns-2 c =
     let ready = start .pre .0 in
     let other = c .before .before .before .before .before .if1 .left in
     rw (c .opened2 .ensures)
-    (takes-line (byte-breaks (start .args .s) (start .args .b) (ready .going) (line-long start) (ready .sound .withinLine) other (start .pre .1 other))
+    (takes-line (byte-breaks (start .args .s) (start .args .b) (ready .going) (line-long start) (ready .bounded .withinLine) other (start .pre .1 other))
     (c .before .before .before .breaks .ensures))
 
 pub end-line-spec : {M : Type 1} → statement M

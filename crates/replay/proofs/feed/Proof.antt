@@ -1,4 +1,4 @@
--- `replay::feed` meets its contract: a session that is not sound takes nothing, another takes the piece.
+-- `replay::feed` meets its contract: a session that is not bounded takes nothing, another takes the piece.
 use borrow.Author.Needs.{needs}
 use mathlib.Core.Path.{refl}
 use Rattle.laws.proofs.Flags.{clash}
@@ -6,11 +6,11 @@ use Rattle.replay.specs.Feeding.{fed}
 use Rattle.replay.proofs.feed.Statement.{statement}
 use Rattle.replay.proofs.feed.Tie as tie
 
-sound-requires : tie.Need-sound-requires
-sound-requires c κs = search needs
+bounded-requires : tie.Need-bounded-requires
+bounded-requires c κs = search needs
 
 take-requires : tie.Need-take-requires
-take-requires c κs = c .before .before .sound .ensures .soundIf (c .before .if1 .taken)
+take-requires c κs = c .before .before .bounded .ensures .boundedIf (c .before .if1 .taken)
 
 same-length : tie.Need-same-length
 same-length c = search needs
@@ -22,13 +22,13 @@ returns-2 : tie.Need-returns-2
 unfolding fed
 returns-2 c =
     record {
-      takenIs = λ s. absurd (clash (c .before .sound .ensures .onlyIf s) (c .if1 .left));
+      takenIs = λ s. absurd (clash (c .before .bounded .ensures .onlyIf s) (c .if1 .left));
       takesNothing = λ unsound. refl;
       stateIs = refl;
       writtenIs = refl;
       bytesAre = refl;
-      staysSound = λ s. s;
+      staysBounded = λ s. s;
     }
 
 pub feed-spec : {M : Type 1} → statement M
-feed-spec = tie.close (tie.spec sound-requires take-requires same-length returns returns-2)
+feed-spec = tie.close (tie.spec bounded-requires take-requires same-length returns returns-2)

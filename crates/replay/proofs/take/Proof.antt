@@ -57,7 +57,7 @@ loop-again c =
     let inv = turn .inv in
     let going = c .before .before .before .before .if1 .left in
     let grown =
-    takes-more (turn .session) _ going (inv .lineLong) (inv .sound .withinLine) (inv .sound .soundRun) (c .before .if3 .taken)
+    takes-more (turn .session) _ going (inv .lineLong) (inv .bounded .withinLine) (inv .bounded .boundedRun) (c .before .if3 .taken)
     (ltb-true (turn .session .count) longestLine (c .if4 .taken)) (turn .written) (turn .out) in
     passed-next inv (c .before .before .before .before .before .loop-test .taken) going
     (omega (arith, inv .within, inv .kept, c .before .before .before .if2 .left)) grown (inv .kept)
@@ -68,7 +68,7 @@ end-line-requires c κs =
     let inv = turn .inv in (
       record {
         going = c .before .before .before .before .if1 .left;
-        sound = inv .sound;
+        bounded = inv .bounded;
         room = omega (arith, inv .within, inv .kept, c .before .before .before .if2 .left);
       },
       λ other.

@@ -98,8 +98,8 @@ by-id-requires c κs =
     write-ready (known .u) (known .w .now) (spent-at .spent .ensures) (head-of-at .head-of .ensures) (start .pre .0)
     (granted (shape-legal-at .shape-legal .ensures) (if1-at .if1 .left))
 
-settle-requires : tie.Need-settle-requires
-settle-requires c κs =
+conclude-requires : tie.Need-conclude-requires
+conclude-requires c κs =
     let spent-at = c .before .before .before .before .before .before .before .before .before .before in
     let start = spent-at .before .before .before in
     (c .before .by-id .ensures .signable, start .pre .1)
@@ -109,8 +109,8 @@ same-length c = search needs
 
 returns-4 : tie.Need-returns-4
 returns-4 c =
-    let settle-at = c .before .before in
-    let by-id-at = settle-at .before .before in
+    let conclude-at = c .before .before in
+    let by-id-at = conclude-at .before .before in
     let if3-at = by-id-at .before .before in
     let key-there-at = if3-at .before in
     let head-of-at = key-there-at .before in
@@ -119,12 +119,12 @@ returns-4 c =
     let shape-legal-at = if1-at .before in
     let spent-at = shape-legal-at .before in
     let known = spent-at .before .before .before .args in
-    write-judged (known .u) (known .w .now) (spent-at .spent .ensures) (head-of-at .head-of .ensures) (settle-at .settle .result)
+    write-judged (known .u) (known .w .now) (spent-at .spent .ensures) (head-of-at .head-of .ensures) (conclude-at .conclude .result)
     (judged-by-id (known .u) (known .w .now) (granted (shape-legal-at .shape-legal .ensures) (if1-at .if1 .left))
     (not-false (known .u .nonce .live) (if2-at .if2 .left))
     (key-there (known .u) (known .w .now) (spent-at .spent .ensures) (head-of-at .head-of .ensures)
     (key-there-at .key-there .ensures) ∙ not-false _ (if3-at .if3 .left)))
-    (by-id-at .by-id .ensures) (settle-at .settle .ensures)
+    (by-id-at .by-id .ensures) (conclude-at .conclude .ensures)
 
 pub write-spec : {M : Type 1} → statement M
 write-spec =
@@ -144,6 +144,6 @@ write-spec =
     part-by-id-start
     part-by-id-end
     by-id-requires
-    settle-requires
+    conclude-requires
     same-length
     returns-4)

@@ -1,5 +1,5 @@
 -- `tag::account_key` meets its contract: a well-formed unit is handed on, another is refused.
-use Rattle.unit.proofs.Ends.{refused-settles, done-settles}
+use Rattle.unit.proofs.Ends.{refused-completes, done-completes}
 use Rattle.tag.specs.Calls.{guarded, call, own}
 use Rattle.tag.proofs.Guards.{well-formed, formed-own, formed-refuses}
 use Rattle.unit.proofs.Lines.{lines, accounts-legal}
@@ -31,7 +31,7 @@ unfolding guarded call own
 returns-2 c =
     let if1-at = c .before in
     let well-formed-at = if1-at .before in
-    rw (formed-refuses _ (well-formed-at .well-formed .ensures) _ (if1-at .if1 .left)) (refused-settles (c .refuse .ensures))
+    rw (formed-refuses _ (well-formed-at .well-formed .ensures) _ (if1-at .if1 .left)) (refused-completes (c .refuse .ensures))
 
 pub account-key-spec : {M : Type 1} → statement M
 account-key-spec =

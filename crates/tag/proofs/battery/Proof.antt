@@ -1,5 +1,5 @@
 -- `tag::battery` meets its contract: a well-formed unit is changed where the level is in range, another is refused.
-use Rattle.unit.proofs.Ends.{refused-settles, done-settles}
+use Rattle.unit.proofs.Ends.{refused-completes, done-completes}
 use Rattle.tag.specs.Calls.{guarded, call, own}
 use Rattle.tag.specs.Own.{charged}
 use Rattle.tag.proofs.Guards.{formed-own, formed-refuses}
@@ -27,7 +27,7 @@ returns c =
     let if2-at = c .before in
     let if1-at = if2-at .before in
     let well-formed-at = if1-at .before in
-    rw (formed-own _ (well-formed-at .well-formed .ensures) _ (if1-at .if1 .taken), le-leb _ highestBattery (if2-at .if2 .taken)) (done-settles (c .accept .ensures))
+    rw (formed-own _ (well-formed-at .well-formed .ensures) _ (if1-at .if1 .taken), le-leb _ highestBattery (if2-at .if2 .taken)) (done-completes (c .accept .ensures))
 
 refuse-requires : tie.Need-refuse-requires
 refuse-requires c κs = search needs
@@ -38,7 +38,7 @@ returns-2 c =
     let if2-at = c .before in
     let if1-at = if2-at .before in
     let well-formed-at = if1-at .before in
-    rw (formed-own _ (well-formed-at .well-formed .ensures) _ (if1-at .if1 .taken), lt-leb _ highestBattery (if2-at .if2 .left)) (refused-settles (c .refuse .ensures))
+    rw (formed-own _ (well-formed-at .well-formed .ensures) _ (if1-at .if1 .taken), lt-leb _ highestBattery (if2-at .if2 .left)) (refused-completes (c .refuse .ensures))
 
 refuse-requires-2 : tie.Need-refuse-requires-2
 refuse-requires-2 c κs = search needs
@@ -48,7 +48,7 @@ unfolding guarded call own charged
 returns-3 c =
     let if1-at = c .before in
     let well-formed-at = if1-at .before in
-    rw (formed-refuses _ (well-formed-at .well-formed .ensures) _ (if1-at .if1 .left)) (refused-settles (c .refuse2 .ensures))
+    rw (formed-refuses _ (well-formed-at .well-formed .ensures) _ (if1-at .if1 .left)) (refused-completes (c .refuse2 .ensures))
 
 pub battery-spec : {M : Type 1} → statement M
 battery-spec =

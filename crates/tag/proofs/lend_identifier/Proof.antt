@@ -1,7 +1,7 @@
 -- `tag::lend_identifier` meets its contract: a well-formed unit is handed on, another is refused.
 use Rattle.tag.specs.Calls.{guarded, call, own}
 use Rattle.tag.proofs.Guards.{formed-own, formed-refuses}
-use Rattle.unit.proofs.Ends.{refused-settles}
+use Rattle.unit.proofs.Ends.{refused-completes}
 use borrow.Author.Needs.{needs}
 use Rattle.tag.proofs.lend_identifier.Statement.{statement}
 use Rattle.tag.proofs.lend_identifier.Tie as tie
@@ -21,7 +21,7 @@ refuse-requires c κs = search needs
 
 returns-2 : tie.Need-returns-2
 unfolding guarded call own
-returns-2 c = rw (formed-refuses _ (c .before .before .well-formed .ensures) _ (c .before .if1 .left)) (refused-settles (c .refuse .ensures))
+returns-2 c = rw (formed-refuses _ (c .before .before .well-formed .ensures) _ (c .before .if1 .left)) (refused-completes (c .refuse .ensures))
 
 pub lend-identifier-spec : {M : Type 1} → statement M
 lend-identifier-spec =

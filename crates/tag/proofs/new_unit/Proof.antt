@@ -1,5 +1,5 @@
 -- `tag::new_unit` meets its contract: settings out of range fail one of their lines.
-use Rattle.unit.proofs.Ends.{refused-settles, done-settles}
+use Rattle.unit.proofs.Ends.{refused-completes, done-completes}
 use mir.Facts.{toZ-ofZ}
 use Prim.Native.Nat.{ℕ}
 use lib.IntN.{ℤ}
@@ -30,7 +30,7 @@ returns c =
     let start = c .before .before in
     let s = asked (start .args .power) (start .args .components) (start .args .selectable) in
     let no : settingsLegal s ≡ false = fails _ (λ e. omega (arith, settings-lines s e .components)) in
-    rw no (refused-settles (c .no-unit .ensures))
+    rw no (refused-completes (c .no-unit .ensures))
 
 no-unit-requires-2 : tie.Need-no-unit-requires-2
 no-unit-requires-2 c κs = search needs
@@ -41,7 +41,7 @@ returns-2 c =
     let start = c .before .before .before in
     let s = asked (start .args .power) (start .args .components) (start .args .selectable) in
     let no : settingsLegal s ≡ false = fails _ (λ e. omega (arith, settings-lines s e .selectable)) in
-    rw no (refused-settles (c .no-unit2 .ensures))
+    rw no (refused-completes (c .no-unit2 .ensures))
 
 power-legal-requires : tie.Need-power-legal-requires
 power-legal-requires c κs = search needs
@@ -76,7 +76,7 @@ returns-3 c =
       components = if1-at .if1 .left;
       selectable = if2-at .if2 .left;
     }) in
-    rw yes (done-settles (rw (fresh-at .fresh .ensures, kept) at (c .accept .ensures)))
+    rw yes (done-completes (rw (fresh-at .fresh .ensures, kept) at (c .accept .ensures)))
 
 no-unit-requires-3 : tie.Need-no-unit-requires-3
 no-unit-requires-3 c κs = search needs
@@ -90,7 +90,7 @@ returns-4 c =
     let s = asked (start .args .power) (start .args .components) (start .args .selectable) in
     let beyond = rw (toZ-ofZ (start .fits .power)) at (sym (power-legal-at .power-legal .ensures) ∙ if3-at .if3 .left) in
     let no : settingsLegal s ≡ false = fails _ (λ e. clash (settings-lines s e .power) beyond) in
-    rw no (refused-settles (c .no-unit3 .ensures))
+    rw no (refused-completes (c .no-unit3 .ensures))
 
 pub new-unit-spec : {M : Type 1} → statement M
 new-unit-spec =

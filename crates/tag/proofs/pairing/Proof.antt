@@ -1,7 +1,7 @@
 -- `tag::pairing` meets its contract: a well-formed unit is changed, another is refused.
 use Rattle.tag.specs.Calls.{guarded, call, own}
 use Rattle.tag.proofs.Guards.{formed-own, formed-refuses}
-use Rattle.unit.proofs.Ends.{refused-settles, done-settles}
+use Rattle.unit.proofs.Ends.{refused-completes, done-completes}
 use borrow.Author.Needs.{needs}
 use Rattle.tag.proofs.pairing.Statement.{statement}
 use Rattle.tag.proofs.pairing.Tie as tie
@@ -14,14 +14,14 @@ accept-requires c κs = search needs
 
 returns : tie.Need-returns
 unfolding guarded call own
-returns c = rw (formed-own _ (c .before .before .well-formed .ensures) _ (c .before .if1 .taken)) (done-settles (c .accept .ensures))
+returns c = rw (formed-own _ (c .before .before .well-formed .ensures) _ (c .before .if1 .taken)) (done-completes (c .accept .ensures))
 
 refuse-requires : tie.Need-refuse-requires
 refuse-requires c κs = search needs
 
 returns-2 : tie.Need-returns-2
 unfolding guarded call own
-returns-2 c = rw (formed-refuses _ (c .before .before .well-formed .ensures) _ (c .before .if1 .left)) (refused-settles (c .refuse .ensures))
+returns-2 c = rw (formed-refuses _ (c .before .before .well-formed .ensures) _ (c .before .if1 .left)) (refused-completes (c .refuse .ensures))
 
 pub pairing-spec : {M : Type 1} → statement M
 pairing-spec =

@@ -4,7 +4,7 @@ use native.Mathlib.Omega.{arith}
 use denote.Ref.{now}
 use lib.ListN.{length}
 use Rattle.laws.specs.Bytes.{bigEndian}
-use Rattle.curves.proofs.Domains.{first, by-limbs}
+use Rattle.curves.proofs.Domains.{first, by-limbs, on-curve}
 use borrow.Author.Needs.{needs}
 use Rattle.curves.proofs.base.times_base.Statement.{statement}
 use Rattle.curves.proofs.base.times_base.Tie as tie
@@ -87,10 +87,9 @@ returns c =
     let r = c .before .before .before .before .before .before .before .before .before .before .before .before .before .scalar in
     let found = c .before .before .before .before .before .before .before .before .before .multiple-x in
     let two = by-limbs (a .d) (c .before .before .before .before .before .before .before .before .before .before .before .before .before .before .before .before .before .before .before .before .before .before .pre) (a .number) (r .result) (found .result) (r .ensures .1) (found .ensures .1) in
-    record {
-      scalar = c .before .to-bytes2 .ensures ∙ ap (bigEndian 32) (two .0);
-      side = c .before .before .before .before .before .before .to-bytes .ensures ∙ ap (bigEndian (length (now (a .x)))) (two .1);
-    }
+    λ curve valid three of.
+    on-curve curve valid three (a .d) of (c .before .before .before .before .before .before .before .before .before .before .before .before .before .before .before .before .before .before .before .before .before .before .pre .order-some)
+    (a .number) _ _ (length (now (a .x))) _ (c .before .to-bytes2 .ensures ∙ ap (bigEndian 32) (two .0)) (c .before .before .before .before .before .before .to-bytes .ensures) (two .1)
 
 pub times-base-spec : {M : Type 1} → statement M
 times-base-spec =

@@ -2,7 +2,6 @@
 use mathlib.Core.Path.{refl}
 use Rattle.curve_laws.specs.Curves.{SECP160R1}
 use Rattle.curve_laws.proofs.Valid.{valid160}
-use Rattle.curves.proofs.Domains.{on-curve}
 use borrow.Author.Needs.{needs}
 use Rattle.curves.proofs.secp160r1.secp160r1.Statement.{statement}
 use Rattle.curves.proofs.secp160r1.secp160r1.Tie as tie
@@ -21,7 +20,7 @@ unfolding SECP160R1
 returns c =
     let d = c .before .before .before .domain in
     let t = c .before .times-base in
-    on-curve SECP160R1 valid160 refl (d .result) (d .ensures .0) (d .ensures .1 .order-some) (c .before .before .before .before .args .number) (t .result) _ 20 (t .ensures)
+    t .ensures SECP160R1 valid160 refl (d .ensures .0)
 
 pub secp160r1-spec : {M : Type 1} → statement M
 secp160r1-spec =

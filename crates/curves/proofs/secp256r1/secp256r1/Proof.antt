@@ -2,7 +2,6 @@
 use mathlib.Core.Path.{refl}
 use Rattle.curve_laws.specs.Curves.{SECP256R1}
 use Rattle.curve_laws.proofs.Valid.{valid256}
-use Rattle.curves.proofs.Domains.{on-curve}
 use borrow.Author.Needs.{needs}
 use Rattle.curves.proofs.secp256r1.secp256r1.Statement.{statement}
 use Rattle.curves.proofs.secp256r1.secp256r1.Tie as tie
@@ -21,7 +20,7 @@ unfolding SECP256R1
 returns c =
     let d = c .before .before .before .domain in
     let t = c .before .times-base in
-    on-curve SECP256R1 valid256 refl (d .result) (d .ensures .0) (d .ensures .1 .order-some) (c .before .before .before .before .args .number) (t .result) _ 32 (t .ensures)
+    t .ensures SECP256R1 valid256 refl (d .ensures .0)
 
 pub secp256r1-spec : {M : Type 1} → statement M
 secp256r1-spec =

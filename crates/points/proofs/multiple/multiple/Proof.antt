@@ -1,4 +1,4 @@
--- `multiple::multiple` meets its contract: after i turns the point is the multiple by the i highest bits.
+-- `multiple::multiple` meets its contract: after i turns the point is what the binary method has made of the i highest bits, and that is the multiple.
 use Prim.Native.Nat.{_-_, _/_, _^_, _≤_}
 use native.Mathlib.Omega.{arith}
 use borrow.Author.Needs.{needs}
@@ -8,7 +8,7 @@ use Rattle.field.specs.Montgomery.{plain}
 use Rattle.field.proofs.Forms.{holds-none}
 use Rattle.curve_laws.proofs.Jacobian.{binary}
 use Rattle.points.specs.Coordinates.{Held}
-use Rattle.points.proofs.Rules.{held-as, held-coordinates, binary-start, binary-turn, binary-end}
+use Rattle.points.proofs.Rules.{held-as, held-coordinates, held-multiplies, binary-start, binary-turn, binary-end}
 use Rattle.points.proofs.multiple.multiple.Statement.{statement}
 use Rattle.points.proofs.multiple.multiple.Tie as tie
 
@@ -63,7 +63,8 @@ returns : tie.Need-returns Inv-loop μ-loop
 returns c =
     let a = c .before .before .before .before .args in
     let l = c .before .loop in
-    held-as (l .inv .1) (binary-end (value (now (a .m))) (plain (now (a .m)) (a .inv) (a .x)) (plain (now (a .m)) (a .inv) (a .y)) (a .bits) (value (now (a .r))) (l .i) (omega arith))
+    held-multiplies
+    (held-as (l .inv .1) (binary-end (value (now (a .m))) (plain (now (a .m)) (a .inv) (a .x)) (plain (now (a .m)) (a .inv) (a .y)) (a .bits) (value (now (a .r))) (l .i) (omega arith)))
 
 pub multiple-spec : {M : Type 1} → statement M
 multiple-spec =

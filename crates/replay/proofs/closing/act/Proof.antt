@@ -7,12 +7,12 @@ use mir.Syntax.{w32}
 use mir.Val.{toZ, ofZ}
 use native.Mathlib.Omega.{arith}
 use Rattle.replay.specs.Feeding.{closed}
-use Rattle.replay.specs.Replay as replay
-use Rattle.replay.specs.Session.{awaiting}
-use Rattle.replay.specs.declared.Awaited.the-variants as awaited
+use Rattle.lines.specs.Lines as lines
+use Rattle.lines.specs.declared.Awaited.the-variants as awaited
 use Rattle.replay.proofs.ClosedLines.{keeping, closes-told, closes-moved}
 use Rattle.replay.proofs.closing.act.Statement.{statement}
 use Rattle.replay.proofs.closing.act.Tie as tie
+use Rattle.lines.specs.Promises.{awaiting}
 
 enum-known-what : tie.Need-enum-known-what
 enum-known-what c = search needs
@@ -29,8 +29,8 @@ follow-requires-2 c κs = search needs
 enum-told-2 : tie.Need-enum-told-2
 enum-told-2 c = search needs
 
-settle-requires : tie.Need-settle-requires
-settle-requires c κs = search needs
+create-requires : tie.Need-create-requires
+create-requires c κs = search needs
 
 enum-known-what-2 : tie.Need-enum-known-what-2
 enum-known-what-2 c = search needs
@@ -68,7 +68,7 @@ returns c =
     let ready = c .before .before .before .before .before .pre .0 in
     let base = keeping (toZ w32 (ofZ w32 (c .before .before .what .given .0 .0))) (run .components) (run .r) (run .filled) run in
     closes-told run (c .before .before .before .before .before .args .number) (take (c .before .before .before .before .before .args .count) (c .before .before .before .before .before .args .t4)) (c .before .before .what .given .1)
-    (closes-moved (replay.components (c .before .before .what .given .0 .0)) awaited.Components base (c .follow .ensures .0) (ready .going) (ready .counted) (ready .sound .withinR) (ap replay.components (search needs)) (c .follow .ensures .1))
+    (closes-moved (lines.components (c .before .before .what .given .0 .0)) awaited.Components base (c .follow .ensures .0) (ready .going) (ready .counted) (ready .bounded .withinR) (ap lines.components (search needs)) (c .follow .ensures .1))
 
 returns-2 : tie.Need-returns-2
 returns-2 c =
@@ -76,13 +76,13 @@ returns-2 c =
     let ready = c .before .before .before .before .pre .0 in
     let base = keeping (run .power) (c .before .before .before .before .args .number) (run .r) (run .filled) run in
     closes-told run (c .before .before .before .before .args .number) (take (c .before .before .before .before .args .count) (c .before .before .before .before .args .t4)) (c .before .enum-told .given .1)
-    (closes-moved (replay.volume (run .power) (c .before .before .before .before .args .number)) awaited.Volume base (c .follow2 .ensures .0) (ready .going) (ready .counted) (ready .sound .withinR) refl (c .follow2 .ensures .1))
+    (closes-moved (lines.volume (run .power) (c .before .before .before .before .args .number)) awaited.Volume base (c .follow2 .ensures .0) (ready .going) (ready .counted) (ready .bounded .withinR) refl (c .follow2 .ensures .1))
 
 same-length : tie.Need-same-length
 same-length c = search needs
 
 returns-3 : tie.Need-returns-3
-returns-3 c = closes-told (c .before .before .before .before .before .before .before .args .run) (c .before .before .before .before .before .before .before .args .number) (take (c .before .before .before .before .before .before .before .args .count) (c .before .before .before .before .before .before .before .args .t4)) (c .before .before .before .before .enum-told2 .given .1) (c .before .before .settle .ensures)
+returns-3 c = closes-told (c .before .before .before .before .before .before .before .args .run) (c .before .before .before .before .before .before .before .args .number) (take (c .before .before .before .before .before .before .before .args .count) (c .before .before .before .before .before .before .before .args .t4)) (c .before .before .before .before .enum-told2 .given .1) (c .before .before .create .ensures)
 
 returns-4 : tie.Need-returns-4
 returns-4 c =
@@ -90,7 +90,7 @@ returns-4 c =
     let ready = c .before .before .before .before .before .pre .0 in
     let next = c .before .before .what2 .given .0 .0 in
     closes-told run (c .before .before .before .before .before .args .number) (take (c .before .before .before .before .before .args .count) (c .before .before .before .before .before .args .t4)) (c .before .before .what2 .given .1)
-    (closes-moved (awaiting next (run .power) (run .components) (take (run .filled) (run .r))) next run (c .follow3 .ensures .0) (ready .going) (ready .counted) (ready .sound .withinR) refl (c .follow3 .ensures .1))
+    (closes-moved (awaiting next (run .power) (run .components) (take (run .filled) (run .r))) next run (c .follow3 .ensures .0) (ready .going) (ready .counted) (ready .bounded .withinR) refl (c .follow3 .ensures .1))
 
 returns-5 : tie.Need-returns-5
 returns-5 c =
@@ -98,7 +98,7 @@ returns-5 c =
     let ready = c .before .before .before .before .pre .0 in
     let base = keeping (run .power) (run .components) (c .before .before .before .before .args .t4) (c .before .before .before .before .args .count) run in
     closes-told run (c .before .before .before .before .args .number) (take (c .before .before .before .before .args .count) (c .before .before .before .before .args .t4)) (c .before .enum-told3 .given .1)
-    (closes-moved (replay.id (take (c .before .before .before .before .args .count) (c .before .before .before .before .args .t4))) awaited.Id base (c .follow4 .ensures .0) (ready .going) (ready .counted) (c .before .before .before .before .pre .1) refl (c .follow4 .ensures .1))
+    (closes-moved (lines.id (take (c .before .before .before .before .args .count) (c .before .before .before .before .args .t4))) awaited.Id base (c .follow4 .ensures .0) (ready .going) (ready .counted) (c .before .before .before .before .pre .1) refl (c .follow4 .ensures .1))
 
 same-length-2 : tie.Need-same-length-2
 same-length-2 c = search needs
@@ -122,7 +122,7 @@ act-spec =
     enum-told
     follow-requires-2
     enum-told-2
-    settle-requires
+    create-requires
     enum-known-what-2
     follow-requires-3
     enum-told-3

@@ -4,20 +4,20 @@ use lib.ListN.{length}
 use lib.Seq.{length-take-le}
 use mathlib.Core.Path.{_≡_, sym}
 use native.Mathlib.Omega.{arith}
-use Rattle.replay.proofs.Performed.{closes-event}
+use Rattle.replay.proofs.ClosedLines.{closes-event}
 use Rattle.replay.proofs.closing.bring.Statement.{statement}
 use Rattle.replay.proofs.closing.bring.Tie as tie
 
 array-share-prefix-r : tie.Need-array-share-prefix-r
 array-share-prefix-r c =
     let size : length (c .before .before .before .before .args .run .r) ≡ 128 = search needs in
-    omega (arith, c .before .before .before .before .pre .sound .withinR)
+    omega (arith, c .before .before .before .before .pre .bounded .withinR)
 
 slice-aggregate-perform : tie.Need-slice-aggregate-perform
 slice-aggregate-perform c =
     let known = c .before .before .before .before .before .args .run in
     let size : length (known .r) ≡ 128 = search needs in
-    sym (length-take-le (known .filled) (known .r) (omega (arith, c .before .before .before .before .before .pre .sound .withinR)))
+    sym (length-take-le (known .filled) (known .r) (omega (arith, c .before .before .before .before .before .pre .bounded .withinR)))
 
 perform-requires : tie.Need-perform-requires
 perform-requires c κs = search needs

@@ -1,5 +1,5 @@
 -- `tag::accounts::added` meets its contract: what led to each return decides the definition.
-use Rattle.unit.proofs.Ends.{refused-settles, done-settles}
+use Rattle.unit.proofs.Ends.{refused-completes, done-completes}
 use mathlib.Core.Path.{sym, _∙_}
 use borrow.Author.Tests.{eq-eqb, ne-eqb, lt-ltb, le-ltb}
 use Rattle.sizes.specs.Sizes.{accountKeySize, mostKeys}
@@ -15,7 +15,7 @@ returns : tie.Need-returns
 unfolding keeping
 returns c =
     let if1-at = c .before in
-    rw (ne-eqb _ accountKeySize (if1-at .if1 .taken)) (refused-settles (c .refuse .ensures))
+    rw (ne-eqb _ accountKeySize (if1-at .if1 .taken)) (refused-completes (c .refuse .ensures))
 
 held-requires : tie.Need-held-requires
 held-requires c κs = search needs
@@ -29,7 +29,7 @@ returns-2 c =
     let if2-at = c .before in
     let held-at = if2-at .before in
     let if1-at = held-at .before .before in
-    rw (eq-eqb _ accountKeySize (if1-at .if1 .left), sym (held-at .held .ensures) ∙ if2-at .if2 .taken) (done-settles (c .accept .ensures))
+    rw (eq-eqb _ accountKeySize (if1-at .if1 .left), sym (held-at .held .ensures) ∙ if2-at .if2 .taken) (done-completes (c .accept .ensures))
 
 with-new-key-requires : tie.Need-with-new-key-requires
 with-new-key-requires c κs = search needs
@@ -46,7 +46,7 @@ returns-3 c =
     let held-at = if2-at .before in
     let if1-at = held-at .before .before in
     rw (eq-eqb _ accountKeySize (if1-at .if1 .left), sym (held-at .held .ensures) ∙ if2-at .if2 .left, lt-ltb _ mostKeys (if3-at .if3 .taken))
-    (done-settles (rw (with-new-key-at .with-new-key .ensures) at (c .accept2 .ensures)))
+    (done-completes (rw (with-new-key-at .with-new-key .ensures) at (c .accept2 .ensures)))
 
 refuse-requires-2 : tie.Need-refuse-requires-2
 refuse-requires-2 c κs = search needs
@@ -58,7 +58,7 @@ returns-4 c =
     let if2-at = if3-at .before .before in
     let held-at = if2-at .before in
     let if1-at = held-at .before .before in
-    rw (eq-eqb _ accountKeySize (if1-at .if1 .left), sym (held-at .held .ensures) ∙ if2-at .if2 .left, le-ltb _ mostKeys (if3-at .if3 .left)) (refused-settles (c .refuse2 .ensures))
+    rw (eq-eqb _ accountKeySize (if1-at .if1 .left), sym (held-at .held .ensures) ∙ if2-at .if2 .left, le-ltb _ mostKeys (if3-at .if3 .left)) (refused-completes (c .refuse2 .ensures))
 
 pub added-spec : {M : Type 1} → statement M
 added-spec =

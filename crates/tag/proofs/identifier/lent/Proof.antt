@@ -1,5 +1,5 @@
 -- `tag::identifier::lent` meets its contract: what led to each return decides the definition.
-use Rattle.unit.proofs.Ends.{refused-settles, done-settles}
+use Rattle.unit.proofs.Ends.{refused-completes, done-completes}
 use borrow.Author.Tests.{eq-eqb, ne-eqb}
 use Rattle.tag.specs.Own.{lending}
 use Rattle.sizes.specs.Sizes.{identifierSize}
@@ -15,7 +15,7 @@ returns : tie.Need-returns
 unfolding lending
 returns c =
     let if1-at = c .before in
-    rw (ne-eqb _ identifierSize (if1-at .if1 .taken)) (refused-settles (c .refuse .ensures))
+    rw (ne-eqb _ identifierSize (if1-at .if1 .taken)) (refused-completes (c .refuse .ensures))
 
 refuse-requires-2 : tie.Need-refuse-requires-2
 refuse-requires-2 c κs = search needs
@@ -25,7 +25,7 @@ unfolding lending
 returns-2 c =
     let if2-at = c .before in
     let if1-at = if2-at .before in
-    rw (eq-eqb _ identifierSize (if1-at .if1 .left), ne-eqb _ identifierSize (if2-at .if2 .taken)) (refused-settles (c .refuse2 .ensures))
+    rw (eq-eqb _ identifierSize (if1-at .if1 .left), ne-eqb _ identifierSize (if2-at .if2 .taken)) (refused-completes (c .refuse2 .ensures))
 
 window-of-requires : tie.Need-window-of-requires
 window-of-requires c κs = search needs
@@ -49,7 +49,7 @@ returns-3 c =
     let if2-at = if3-at .before .before in
     let if1-at = if2-at .before in
     rw (eq-eqb _ identifierSize (if1-at .if1 .left), eq-eqb _ identifierSize (if2-at .if2 .left), where-true _ _ _ (if3-at .if3 .taken))
-    (done-settles (rw (window-of-at .window-of .ensures, twenty-at .twenty .ensures, twenty2-at .twenty2 .ensures) at (c .accept .ensures)))
+    (done-completes (rw (window-of-at .window-of .ensures, twenty-at .twenty .ensures, twenty2-at .twenty2 .ensures) at (c .accept .ensures)))
 
 refuse-requires-3 : tie.Need-refuse-requires-3
 refuse-requires-3 c κs = search needs
@@ -61,7 +61,7 @@ returns-4 c =
     let if2-at = if3-at .before .before in
     let if1-at = if2-at .before in
     rw (eq-eqb _ identifierSize (if1-at .if1 .left), eq-eqb _ identifierSize (if2-at .if2 .left), where-false _ _ _ (if3-at .if3 .left))
-    (refused-settles (c .refuse3 .ensures))
+    (refused-completes (c .refuse3 .ensures))
 
 pub lent-spec : {M : Type 1} → statement M
 lent-spec =
