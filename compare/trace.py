@@ -12,7 +12,8 @@ whole file, for the comment at its head); and what the list says itself. It is a
 - if a sentence has no answer, or an answer names something that does not exist, or a theorem that nothing proves;
 - if an edit's first line quotes nothing, or words of a paper that no sentence of the list has, or that a landed request superseded, or words of
   this repository that do not stand at the place named. Quotations of the standards are taken as they are;
-- if a public call is not among the `public calls` of the list, has fewer than two edits, or asks something of its caller (`requires`).
+- if a public call is not among the `public calls` of the list, has fewer than two edits, or asks something of its caller (`requires`);
+- if docs/ACCEPTANCE.md does not have the letter's conditions word for word, or a page names an edit or a file of a crate that does not exist.
 """
 import pathlib
 import re
@@ -47,6 +48,24 @@ def check_calls(listed):
     for name in sorted(there & told.keys()):
         if len(told[name].edits) < 2:
             fail(f"{name}: fewer than two edits")
+
+
+def check_documents(listed):
+    """The letter's conditions stand in ACCEPTANCE.md word for word, and the edits and files of crates that the pages name exist."""
+    acceptance = words((ROOT / "docs/ACCEPTANCE.md").read_text().replace("\n> ", " "))
+    for s in listed:
+        if s.section.startswith("the letter") and not runs(s.words, acceptance):
+            fail(f"docs/ACCEPTANCE.md does not have: {s.text}")
+    crates = {path.name for path in (ROOT / "crates").iterdir()}
+    for path in [ROOT / "README.md", *sorted(set((ROOT / "docs").glob("*.md")) - {OUTPUT})]:
+        text, page = path.read_text(), path.relative_to(ROOT)
+        for label in re.findall(r"`(\w+:\w+)`", text):
+            if label.split(":")[0] in crates and label not in EDITS:
+                fail(f"{page}: there is no edit {label}")
+        for crate, folder, file in re.findall(r"\b(\w+)/(specs|proofs|src)/(\w+(?:\.\w+)?)", text):
+            named = ROOT / "crates" / crate / folder / file
+            if crate in crates and not named.exists() and not named.with_suffix(".antt").exists():
+                fail(f"{page}: there is no {crate}/{folder}/{file}")
 
 
 HEAD = """# What answers which sentence
@@ -120,6 +139,7 @@ def main():
         match_clause(clause, listed)
     match_specs(listed, "--unmatched" in sys.argv)
     check_calls(listed)
+    check_documents(listed)
     for s in listed:
         if not (s.definitions or s.edits or s.others):
             fail(f"{s.section}: nothing answers {s.text}")
