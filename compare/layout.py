@@ -3,6 +3,7 @@
 
 A size has the definition's name (nonceSize is TAG_NONCE_SIZE). A place has the names of the innermost group and of the field
 (TAG_NONCE_HELD_AT), or of the field alone where it stands in the unit itself or is a group's only one (TAG_CONSENT_AT, TAG_PROTECTION_AT).
+The numbers that a table of docs/INTEGRATION.md gives for constants are held to the header too.
 """
 import pathlib
 import re
@@ -86,9 +87,13 @@ def main():
     differing = sorted(n for n in wanted.keys() | header.keys() if wanted.get(n) != header.get(n))
     for name in differing:
         print(f"{name}: the definitions say {wanted.get(name)}, the header says {header.get(name)}")
-    if differing:
+    told = re.findall(r"^\| `(TAG_\w+)` \| (\d+) \|", read("docs/INTEGRATION.md"), re.M)
+    wrong = [(name, n) for name, n in told if header.get(name) != int(n)]
+    for name, n in wrong:
+        print(f"{name}: docs/INTEGRATION.md says {n}, the header says {header.get(name)}")
+    if differing or wrong:
         sys.exit(1)
-    print(f"layout: {len(wanted)} constants agree")
+    print(f"layout: {len(wanted)} constants agree, {len(told)} of them in docs/INTEGRATION.md")
 
 
 main()
