@@ -77,8 +77,8 @@ def main():
     wanted.update((header_name(n), value(n, exported)) for n in exported)
     calls = read("crates/primitives/specs/Calls.antt")
     wanted["TAG_LONGEST_MESSAGE"] = value("longestMessage", numbers(calls))
-    wanted["TAG_WRONG_SIZE"] = int(re.search(r"^number Ending\.WrongSize = (\d+)$", calls, re.M)[1])
-    for name, n in re.findall(r"^number (\w+) = (0x[0-9a-fA-F]+|\d+)$", read("crates/unit/specs/Refusals.antt"), re.M):
+    wanted["TAG_WRONG_SIZE"] = int(re.search(r"^endNumber Ending\.WrongSize = (\d+)$", calls, re.M)[1])
+    for name, n in re.findall(r"^refusalNumber (\w+) = (0x[0-9a-fA-F]+|\d+)$", read("crates/unit/specs/Refusals.antt"), re.M):
         wanted[header_name(name)] = int(n, 0)
     for name, n in re.findall(r"^(started|timedOut|byButton|byRequest) = (\d+)$", read("crates/wire/specs/Signing.antt"), re.M):
         wanted[header_name("ring" + name[0].upper() + name[1:])] = int(n)

@@ -13,13 +13,14 @@ whole file, for the comment at its head); and what the list says itself. It is a
 - if an edit's first line quotes nothing, or words of a paper that no sentence of the list has, or that a landed request superseded, or words of
   this repository that do not stand at the place named. Quotations of the standards are taken as they are;
 - if a public call is not among the `public calls` of the list, has fewer than two edits, or asks something of its caller (`requires`);
-- if docs/ACCEPTANCE.md does not have the letter's conditions word for word, or a page names an edit or a file of a crate that does not exist.
+- if docs/ACCEPTANCE.md does not have the letter's conditions word for word, if a page names an edit, a file or a definition of a crate that does not
+  exist, or if README.md leaves a crate out.
 """
 import pathlib
 import re
 import sys
 
-from tracing.answers import answer, cell
+from tracing.answers import answer, antt, cell, check_names
 from tracing.quotations import EDITS, PAPER, match_clause, match_specs
 from tracing.sentences import CALLS, ROOT, fail, failures, runs, sentences, words
 
@@ -66,6 +67,10 @@ def check_documents(listed):
             named = ROOT / "crates" / crate / folder / file
             if crate in crates and not named.exists() and not named.with_suffix(".antt").exists():
                 fail(f"{page}: there is no {crate}/{folder}/{file}")
+        for crate, folder, file, names in re.findall(r"`(\w+)/(specs|proofs)/(\w+)`: ((?:`[^`]+`(?:, )?)+)", text):
+            check_names(antt(crate, folder, file), re.findall(r"`([^`]+)`", names), page)
+    for crate in sorted(crates - set(re.findall(r"`(\w+)`", (ROOT / "README.md").read_text()))):
+        fail(f"README.md does not name the crate {crate}")
 
 
 HEAD = """# What answers which sentence

@@ -46,8 +46,9 @@ def own_text(source):
 def match_clause(clause, listed):
     for source, quotation in clause.quotations:
         if PAPER.match(source):
-            hits = [s for s in listed if s.section == source and s.quoted(quotation)]
-            if not hits:
+            section = [s for s in listed if s.section == source]
+            hits = [s for s in section if s.quoted(quotation)]
+            if not all(any(s.quoted(piece) for s in section) for piece in quotation.split("..")):
                 fail(f'{clause.label}: no sentence of "{source}" in docs/sentences.txt has "{quotation}"')
             for s in hits:
                 s.add(s.edits, clause.label)

@@ -28,7 +28,7 @@ class Sentence:
         self.explicit, self.superseded = answers, None
 
     def quoted(self, quotation):
-        """Whether a quotation, or a whole sentence in it, is of this sentence. Two points in it leave words out."""
+        """Whether a quotation, or a whole sentence in it, is of this sentence. Two points in it leave words out, also from one sentence to another."""
         inside = [s for s in re.split(r"(?<!\.)\. ", quotation) if len(words(s)) > 2]
         return any(self.has(q) for q in [quotation, *inside])
 
@@ -36,7 +36,8 @@ class Sentence:
         pieces = [words(p) for p in quotation.split("..")]
         if len(pieces) == 1 and runs(self.words, pieces[0]):
             return True
-        return all(runs(p, self.words) for p in pieces if p)
+        there = [runs(p, self.words) for p in pieces]
+        return all(there) or len(pieces) > 1 and any(t and len(p) > 4 for t, p in zip(there, pieces))
 
     def add(self, column, item):
         if item not in column:
