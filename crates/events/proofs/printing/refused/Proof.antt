@@ -4,8 +4,8 @@ use Rattle.events.specs.Event.{refusedText}
 use Rattle.events.proofs.printing.refused.Statement.{statement}
 use Rattle.events.proofs.printing.refused.Tie as tie
 
-number-requires : tie.Need-number-requires
-number-requires c κs = search needs
+refusal-number-requires : tie.Need-refusal-number-requires
+refusal-number-requires c κs = search needs
 
 slice-aggregate-hex-line : tie.Need-slice-aggregate-hex-line
 slice-aggregate-hex-line c = search needs
@@ -21,13 +21,13 @@ same-length c = search needs
 
 returns : tie.Need-returns
 unfolding refusedText
-returns c = rw (c .before .before .before .before .before .before .number .ensures) at (c .before .before .hex-line .ensures)
+returns c = rw (c .before .before .before .before .before .before .refusal-number .ensures) at (c .before .before .hex-line .ensures)
 
 pub refused-spec : {M : Type 1} → statement M
 refused-spec =
     tie.close
     (tie.spec
-    number-requires
+    refusal-number-requires
     slice-aggregate-hex-line
     slice-aggregate-hex-line-2
     hex-line-requires

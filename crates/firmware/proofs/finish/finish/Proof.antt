@@ -14,8 +14,8 @@ encode-requires c κs =
 enum-known-reply-2 : tie.Need-enum-known-reply-2
 enum-known-reply-2 c = search needs
 
-number-requires : tie.Need-number-requires
-number-requires c κs = search needs
+refusal-number-requires : tie.Need-refusal-number-requires
+refusal-number-requires c κs = search needs
 
 cast-n : tie.Need-cast-n
 cast-n c = search needs
@@ -25,7 +25,7 @@ spends-requires c κs = search needs
 
 encode-requires-2 : tie.Need-encode-requires-2
 encode-requires-2 c κs =
-    c .before .before .before .before .before .before .before .before .pre (rw (c .before .before .before .before .before .reply2 .given .1) (rw (c .before .before .before .number .ensures) at (sym (c .before .before .spends .ensures) ∙ c .before .if1 .taken)))
+    c .before .before .before .before .before .before .before .before .pre (rw (c .before .before .before .before .before .reply2 .given .1) (rw (c .before .before .before .refusal-number .ensures) at (sym (c .before .before .spends .ensures) ∙ c .before .if1 .taken)))
 
 add-result : tie.Need-add-result
 add-result c = search needs
@@ -37,8 +37,8 @@ returns : tie.Need-returns
 returns c =
     rw (c .before .before .before .before .before .before .before .before .reply2 .given .1)
     (record {
-      codeIs = rw (c .before .before .before .before .before .before .number .ensures);
-      recordIs = rw (rw (c .before .before .before .before .before .before .number .ensures) at (sym (c .before .before .before .before .before .spends .ensures) ∙ c .before .before .before .before .if1 .taken)) (c .before .before .encode2 .ensures);
+      codeIs = rw (c .before .before .before .before .before .before .refusal-number .ensures);
+      recordIs = rw (rw (c .before .before .before .before .before .before .refusal-number .ensures) at (sym (c .before .before .before .before .before .spends .ensures) ∙ c .before .before .before .before .if1 .taken)) (c .before .before .encode2 .ensures);
     })
 
 add-result-2 : tie.Need-add-result-2
@@ -55,8 +55,8 @@ returns-3 : tie.Need-returns-3
 returns-3 c =
     rw (c .before .before .before .before .reply2 .given .1)
     (record {
-      codeIs = rw (c .before .before .number .ensures);
-      recordIs = rw (rw (c .before .before .number .ensures) at (sym (c .before .spends .ensures) ∙ c .if1 .left));
+      codeIs = rw (c .before .before .refusal-number .ensures);
+      recordIs = rw (rw (c .before .before .refusal-number .ensures) at (sym (c .before .spends .ensures) ∙ c .if1 .left));
     })
 
 pub finish-spec : {M : Type 1} → statement M
@@ -66,7 +66,7 @@ finish-spec =
     enum-known-reply
     encode-requires
     enum-known-reply-2
-    number-requires
+    refusal-number-requires
     cast-n
     spends-requires
     encode-requires-2
