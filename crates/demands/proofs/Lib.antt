@@ -22,4 +22,6 @@ pub mod KeyKept
 pub mod KeyBytes
 pub mod Blocks
 pub mod Recovery
+pub mod MaskBits
+pub mod RecordLines
 pub mod Example

@@ -1,0 +1,70 @@
+-- "What a unit holds", line by line and in literal numbers: a record is well formed exactly if it breaks none of these lines. What does not
+-- stand here is allowed: a ring without a last nonce or with another, an identifier of another window than the clock's, consent without a key.
+use Prim.Native.Nat.{ℕ, _*_, _/_, _%_, _^_, _≤_, _<_}
+use mathlib.Core.Path.{_≡_}
+use mathlib.Core.Bool.{Bool, true, false}
+use mathlib.Core.List.{List}
+use lib.ListN.{length, getD}
+use lib.IntN.{pos, negℤ}
+use lib.Signed.{_≤ℤ_}
+use Rattle.unit.specs.declared.TagUnit.{TagUnit}
+use Rattle.unit.specs.declared.Owner.{Owner}
+use Rattle.unit.specs.declared.Sound.{Sound}
+use Rattle.unit.specs.declared.Protection.{Protection}
+use Rattle.unit.specs.WellFormed.{wellFormed}
+use Rattle.demands.specs.Spelled.{keyAtPlace}
+
+-- "room for absent things not zero, is not well formed": every byte of the room is 0
+abbrev pub Zeros : List ℕ → Type 0
+Zeros room = (i : ℕ) → getD room i 0 ≡ 0
+
+-- "ringing with a mask, a volume, tenths left (1 to 6,000) .. Ringing only with an identity key, with a mask that isn't 0 and a volume of at
+-- most 3, or 0 where not selectable"; "also a mask outside the components": bit i of the mask names a component if i is below their number
+pub record RingLines (u : TagUnit) (mask volume left : ℕ) : Type 0 where
+  pub keyed : u .identity .held ≡ true
+  pub someMask : mask ≡ 0 → ⊥
+  pub noBitOutside : (i : ℕ) → u .settings .components ≤ i → mask / 2 ^ i % 2 ≡ 0
+  pub loudest : volume ≤ 3
+  pub notSelectable : u .settings .selectable ≡ 0 → volume ≡ 0
+  pub leastLeft : 1 ≤ left
+  pub mostLeft : left ≤ 6000
+
+pub record RecordLines (u : TagUnit) : Type 0 where
+  -- "Settings: calibrated power, a whole number from -100 to 20; components 0 to 3; volume selectable, 0 or 1."
+  pub leastPower : negℤ (pos 100) ≤ℤ u .settings .power
+  pub mostPower : u .settings .power ≤ℤ pos 20
+  pub components : u .settings .components ≤ 3
+  pub selectable : u .settings .selectable ≤ 1
+  -- "Clock: seconds as 32 bits, and a tenth 0 to 9."
+  pub tenth : u .clock .tenth ≤ 9
+  -- "Up to 5 account keys of 16 bytes, no two equal, in order of arrival"
+  pub keysRoom : length (u .accounts .keys) ≡ 80
+  pub keysHeld : u .accounts .count ≤ 5
+  pub noTwoEqual : (i j : ℕ) → i < j → j < u .accounts .count → keyAtPlace u i ≡ keyAtPlace u j → ⊥
+  pub noOtherKeys : (i : ℕ) → 16 * u .accounts .count ≤ i → getD (u .accounts .keys) i 0 ≡ 0
+  -- "perhaps an owner among them": "an owner that isn't held" is not well formed
+  pub ownerHeld : (p : ℕ) → u .accounts .owner ≡ Owner.Place p → p < u .accounts .count
+  -- "perhaps a 32-byte identity key (then there is an owner)"
+  pub keyOwned : u .identity .held ≡ true → u .accounts .owner ≡ Owner.Nobody → ⊥
+  pub noKey : u .identity .held ≡ false → Zeros (u .identity .bytes)
+  -- "The last issued nonce, if any, and whether it is live": "live without a nonce" is not well formed
+  pub notLive : u .nonce .held ≡ false → u .nonce .live ≡ false
+  pub noNonce : u .nonce .held ≡ false → Zeros (u .nonce .bytes)
+  -- "Sound: silent, or ringing .. and the nonce of the accepted ring, kept beside it."
+  pub silent : u .sound ≡ Sound.Silent → Zeros (u .«ring_nonce»)
+  pub ringing : (mask volume left : ℕ) → u .sound ≡ Sound.Ringing mask volume left → RingLines u mask volume left
+  -- "Protection: off, or on with the skip flag on or off; on only with an identity key."
+  pub protected : (skip : Bool) → u .protection ≡ Protection.On skip → u .identity .held ≡ true
+  -- "Consent tenths left, 0 to 600; pairing flag; battery 0 to 3"
+  pub consent : u .consent ≤ 600
+  pub battery : u .battery ≤ 3
+  -- "a lent identifier with its r and its window (low 10 bits clear), only with an identity key"
+  pub identifierKeyed : u .identifier .held ≡ true → u .identity .held ≡ true
+  pub identifierWindow : u .identifier .held ≡ true → u .identifier .window % 1024 ≡ 0
+  pub noR : u .identifier .held ≡ false → Zeros (u .identifier .r)
+  pub noIdentifier : u .identifier .held ≡ false → Zeros (u .identifier .id)
+  pub noWindow : u .identifier .held ≡ false → u .identifier .window ≡ 0
+
+pub record WellFormedExactly : Type 0 where
+  pub met : (u : TagUnit) → wellFormed u ≡ true → RecordLines u
+  pub enough : (u : TagUnit) → RecordLines u → wellFormed u ≡ true
