@@ -24,4 +24,8 @@ pub mod Blocks
 pub mod Recovery
 pub mod MaskBits
 pub mod RecordLines
+pub mod Sent
+pub mod RingValues
+pub mod Reasons
+pub mod Refused
 pub mod Example

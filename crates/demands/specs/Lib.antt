@@ -3,6 +3,7 @@ pub mod History
 pub mod Ends
 pub mod Formed
 pub mod Accepted
+pub mod Refused
 pub mod RecordLines
 pub mod Nonces
 pub mod Recovery
