@@ -54,7 +54,7 @@ tenth-gives : (b : Bool) (n : ℕ) (o : Outcome) → Gives o
 tenth-gives true n o g = (timeoutNotice (o .unit), refl)
 tenth-gives false n o g = g
 
-tenths-give : (n : ℕ) (u : TagUnit) → Gives (tenths n u)
+pub tenths-give : (n : ℕ) (u : TagUnit) → Gives (tenths n u)
 unfolding tenths afterTenth
 tenths-give zero u = ([], refl)
 tenths-give (suc n) u = tenth-gives (endsNext (tenths n u .unit .sound)) n (tenths n u) (tenths-give n u)

@@ -28,4 +28,7 @@ pub mod Sent
 pub mod RingValues
 pub mod Reasons
 pub mod Refused
+pub mod LentRoom
+pub mod OwnRefusals
+pub mod RefusalOrder
 pub mod Example

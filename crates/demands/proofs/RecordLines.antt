@@ -49,7 +49,7 @@ distinct-pairs (x ∷ xs) d zero (suc j) h k e =
     clash (and-left _ _ d) (ap not (rw (sym e) at (among-place xs j (omega arith))))
 distinct-pairs (x ∷ xs) d (suc i) (suc j) h k e = distinct-pairs xs (and-right (not (among x xs)) _ d) i j (omega arith) (omega arith) e
 
-among-found : (k : List ℕ) (l : List (List ℕ)) → among k l ≡ true → (j : ℕ) × (j < length l) × (k ≡ getD l j [])
+pub among-found : (k : List ℕ) (l : List (List ℕ)) → among k l ≡ true → (j : ℕ) × (j < length l) × (k ≡ getD l j [])
 unfolding among
 among-found k [] h = absurd (false≢true h)
 among-found k (x ∷ xs) h = go (or-cases _ _ h) (among-found k xs)
@@ -84,15 +84,15 @@ spare-all : (l : List ℕ) (n : ℕ) → ((i : ℕ) → n ≤ i → getD l i 0 �
 spare-all l n z = zeros-all (drop n l) (λ i. rw getD-drop (z (n + i) (omega arith)))
 
 -- Power
-least-power : (p : ℤ) → powerLegal p ≡ true → negℤ (pos 100) ≤ℤ p
+pub least-power : (p : ℤ) → powerLegal p ≡ true → negℤ (pos 100) ≤ℤ p
 least-power (pos n) h = record { le = tt }
 least-power (negsuc n) h = record { le = le→leb n 99 (leb-true n 99 h) }
 
-most-power : (p : ℤ) → powerLegal p ≡ true → p ≤ℤ pos 20
+pub most-power : (p : ℤ) → powerLegal p ≡ true → p ≤ℤ pos 20
 most-power (pos n) h = record { le = le→leb n 20 (leb-true n 20 h) }
 most-power (negsuc n) h = record { le = tt }
 
-power-legal : (p : ℤ) → negℤ (pos 100) ≤ℤ p → p ≤ℤ pos 20 → powerLegal p ≡ true
+pub power-legal : (p : ℤ) → negℤ (pos 100) ≤ℤ p → p ≤ℤ pos 20 → powerLegal p ≡ true
 power-legal (pos n) least most = le-leb n 20 (leb→le n 20 (most .le))
 power-legal (negsuc n) least most = le-leb n 99 (leb→le n 99 (least .le))
 

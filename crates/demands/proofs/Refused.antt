@@ -36,7 +36,7 @@ use Rattle.demands.proofs.Judging.{requestOf, opened}
 use Rattle.demands.proofs.RecordLines.{key-at, well-formed-exactly}
 use Rattle.demands.proofs.RingValues.{values-refused}
 use Rattle.demands.proofs.Sent.{sent-parts, sent-legal, legal-sent}
-use Rattle.demands.proofs.Reasons.{reason-found}
+use Rattle.demands.proofs.Reasons.{same-either, reason-found}
 
 -- Equations of tags and proofs, as the tests
 module _ (key nonce : List ℕ) (id size : ℕ) (tag additional : List ℕ) where
@@ -59,10 +59,6 @@ all-fail test [] h = refl
 all-fail test (k ∷ ks) h = rw (h 0 (omega arith)) (all-fail test ks (λ i b. h (suc i) (omega arith)))
 
 -- Where what follows is refused, so is the whole
-same-either : (b : Bool) (j : Judgement) → cond b j j ≡ j
-same-either true j = refl
-same-either false j = refl
-
 under-refused : (o : Option (List ℕ)) (g : List ℕ → Judgement) → ((key : List ℕ) → g key ≡ rejects 0x80) → under o g ≡ rejects 0x80
 under-refused (some key) g h = h key
 under-refused none g h = refl

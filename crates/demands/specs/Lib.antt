@@ -5,6 +5,7 @@ pub mod Formed
 pub mod Accepted
 pub mod Refused
 pub mod RecordLines
+pub mod RefusalOrder
 pub mod Nonces
 pub mod Recovery
 pub mod Time

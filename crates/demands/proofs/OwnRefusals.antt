@@ -1,0 +1,208 @@
+-- Each call's own refusals: its checks are gone through, each that fails is one of the list, and each of the list fails a check. A write's are
+-- `Refused`.
+use Prim.Native.Nat.{ℕ, _*_, _/_, _≤_, _<_}
+use mathlib.Core.Path.{_≡_, refl, sym, ap, _∙_}
+use mathlib.Core.Bool.{true, false, not, _&&_}
+use mathlib.Core.List.{List, []}
+use mathlib.Core.Logic.{_⊎_, inl, inr}
+use native.Mathlib.Omega.{arith}
+use lib.Dec.{eqb, ltb, leb}
+use lib.ListN.{length, getD}
+use borrow.Author.Tests.{eqb-true, eqb-false, ne-eqb, eq-eqb, le-ltb, ltb-false, leb-false, lt-leb, not-false, not-true}
+use Rattle.laws.specs.Answer.{gives, refuses}
+use Rattle.laws.specs.Bytes.{sameBytes}
+use Rattle.laws.proofs.Flags.{and-fails-left, and-fails-right, and-left, and-right, both, fails, clash}
+use Rattle.laws.proofs.Same.{same-equal, equal-same}
+use Rattle.tables.specs.Rows.{among}
+use Rattle.tables.proofs.Rows.{among-place}
+use Rattle.sizes.specs.Sizes.{window}
+use Rattle.unit.specs.declared.TagUnit.{TagUnit}
+use Rattle.unit.specs.declared.Sound.{Sound}
+use Rattle.unit.specs.WellFormed.{wellFormed, heldKeys}
+use Rattle.unit.specs.Standing.{stands}
+use Rattle.unit.specs.Outcome.{Outcome, refusing}
+use Rattle.unit.proofs.Lines.{held-count}
+use Rattle.tag.specs.Own.{nonceFits, issuing, pressed, charged, keeping, lending, showing}
+use Rattle.tag.specs.Calls.{read, write, button, pairing, battery, accountKey, identifier, frame, own as ownCall, Act, calls, waits}
+use Rattle.demands.specs.History.{step}
+use Rattle.demands.specs.Spelled.{keyAtPlace}
+use Rattle.demands.specs.RecordLines.{RecordLines}
+use Rattle.demands.specs.RefusalOrder.{Own, nonceLength, lastIssued, ofWrite, batteryLevel, keyLength, sixthKey, rLength, identifierLength, lentWithoutKey, frameWithoutKey, frameWithoutIdentifier, otherWindow}
+use Rattle.demands.proofs.Choices.{tested}
+use Rattle.demands.proofs.Ends.{tenths-give}
+use Rattle.demands.proofs.Guards.{roomFor, ownOf}
+use Rattle.demands.proofs.RecordLines.{key-at, among-found}
+use Rattle.demands.proofs.Reasons.{one-fails, same-either}
+use Rattle.demands.proofs.Refused.{write-refused, only-for-a-reason}
+use Rattle.demands.proofs.LentRoom.{through}
+
+-- An answer, or a refusal of the list that changes nothing
+data Found (u : TagUnit) (a : Act) : Outcome → Type 0 where
+  answered : {o : Outcome} (answer : List ℕ) → o .result ≡ gives answer → Found u a o
+  refused : {n : ℕ} → Own u a n → Found u a (refusing n u)
+
+window-is : (seconds : ℕ) → window seconds ≡ 1024 * (seconds / 1024)
+window-is seconds = omega arith
+
+module _ (u : TagUnit) (l : RecordLines u) where
+  read-found : (nonce : List ℕ) (room : ℕ) → Found u (calls (read nonce) room) (issuing nonce u)
+  unfolding issuing nonceFits
+  read-found nonce room =
+      tested (Found u (calls (read nonce) room)) (nonceFits u nonce) (λ e. answered _ refl) (λ e. refused (go (one-fails _ _ e)))
+    where
+      go : (eqb (length nonce) 8 ≡ false) ⊎ ((eqb (length nonce) 8 ≡ true) × (not (u .nonce .held && sameBytes (u .nonce .bytes) nonce) ≡ false))
+          → Own u (calls (read nonce) room) 3
+      go (inl e) = nonceLength (eqb-false _ _ e)
+      go (inr e) =
+          let again = not-false _ (e .1) in
+          lastIssued (and-left _ _ again) (sym (same-equal (u .nonce .bytes) nonce (and-right (u .nonce .held) _ again)))
+
+  press-found : (room : ℕ) (s : Sound) → Found u (calls button room) (pressed s u)
+  unfolding pressed
+  press-found room Sound.Silent = answered _ refl
+  press-found room (Sound.Ringing mask volume left) = answered _ refl
+
+  battery-found : (level room : ℕ) → Found u (calls (battery level) room) (charged level u)
+  unfolding charged
+  battery-found level room =
+      tested (Found u (calls (battery level) room)) (leb level 3) (λ e. answered _ refl) (λ e. refused (batteryLevel (leb-false level 3 e)))
+
+  full : (key : List ℕ) (room : ℕ) → among key (heldKeys (u .accounts)) ≡ false → ltb (u .accounts .count) 5 ≡ false
+      → Own u (calls (accountKey key) room) 4
+  full key room new most =
+      let count : u .accounts .count ≡ 5 = omega (arith, ltb-false (u .accounts .count) 5 most, l .keysHeld) in
+      sixthKey count
+      (λ p h e.
+      let row : getD (heldKeys (u .accounts)) p [] ≡ key = key-at u p (omega arith) ∙ e in
+      clash (rw row at (among-place (heldKeys (u .accounts)) p (omega (arith, held-count (u .accounts))))) new)
+
+  key-found : (key : List ℕ) (room : ℕ) → Found u (calls (accountKey key) room) (keeping key u)
+  unfolding keeping
+  key-found key room =
+      let P = Found u (calls (accountKey key) room) in
+      tested P (not (eqb (length key) 16)) (λ e. refused (keyLength (eqb-false _ _ (not-true _ e))))
+      (λ e.
+      tested P (among key (heldKeys (u .accounts))) (λ h. answered _ refl)
+      (λ h. tested P (ltb (u .accounts .count) 5) (λ k. answered _ refl) (λ k. refused (full key room h k))))
+
+  identifier-found : (r id : List ℕ) (room : ℕ) → Found u (calls (identifier r id) room) (lending r id u)
+  unfolding lending
+  identifier-found r id room =
+      let P = Found u (calls (identifier r id) room) in
+      tested P (not (eqb (length r) 20 && eqb (length id) 20)) (λ e. refused (go (one-fails _ _ (not-true _ e))))
+      (λ e.
+      let sizes = not-false _ e in
+      tested P (u .identity .held) (λ h. answered _ refl)
+      (λ h. refused (lentWithoutKey (eqb-true _ _ (and-left _ _ sizes)) (eqb-true _ _ (and-right (eqb (length r) 20) _ sizes)) h)))
+    where
+      go : (eqb (length r) 20 ≡ false) ⊎ ((eqb (length r) 20 ≡ true) × (eqb (length id) 20 ≡ false)) → Own u (calls (identifier r id) room) 1
+      go (inl e) = rLength (eqb-false _ _ e)
+      go (inr e) = identifierLength (eqb-false _ _ (e .1))
+
+  frame-found : (room : ℕ) → Found u (calls frame room) (showing u)
+  unfolding showing
+  frame-found room =
+      tested (Found u (calls frame room)) (stands u) (λ e. answered _ refl) (λ e. refused (go (one-fails _ _ e)))
+    where
+      last : (u .identifier .held ≡ false) ⊎ ((u .identifier .held ≡ true) × (eqb (u .identifier .window) (window (u .clock .seconds)) ≡ false))
+          → Own u (calls frame room) 5
+      last (inl e) = frameWithoutIdentifier e
+      last (inr e) = otherWindow (λ k. eqb-false _ _ (e .1) (k ∙ sym (window-is (u .clock .seconds))))
+
+      go : (u .identity .held ≡ false)
+          ⊎ ((u .identity .held ≡ true) × (u .identifier .held && eqb (u .identifier .window) (window (u .clock .seconds)) ≡ false))
+          → Own u (calls frame room) 5
+      go (inl e) = frameWithoutKey e
+      go (inr e) = last (one-fails _ _ (e .1))
+
+-- Behind the guards, an act is refused only for one of its own refusals
+from-found : {u : TagUnit} {a : Act} {o : Outcome} (n : ℕ) → Found u a o → o .result ≡ refuses n → Own u a n
+from-found n (answered answer g) e = let z : _≡_ {A = ℕ} 0 1 = cc in absurd (omega arith)
+from-found n (refused {n = m} f) e = let same : m ≡ n = cc in rw same at f
+
+module _ (u : TagUnit) (n : ℕ) (l : RecordLines u) (right : wellFormed u ≡ true) where
+  pub own-only : (a : Act) → 42 ≤ roomFor a → ownOf a u .result ≡ refuses n → Own u a n
+  unfolding ownCall
+  own-only (calls (read nonce) room) fits e = from-found n (read-found u l nonce room) e
+  own-only (calls (write w) room) fits e =
+      ofWrite (only-for-a-reason u room (w .bytes) n right fits (ap (λ (o : Outcome). o .result) (through (calls (write w) room) u fits right) ∙ e))
+  own-only (calls button room) fits e = from-found n (press-found u l room (u .sound)) e
+  own-only (calls (pairing on) room) fits e = let z : _≡_ {A = ℕ} 0 1 = cc in absurd (omega arith)
+  own-only (calls (battery level) room) fits e = from-found n (battery-found u l level room) e
+  own-only (calls (accountKey key) room) fits e = from-found n (key-found u l key room) e
+  own-only (calls (identifier r id) room) fits e = from-found n (identifier-found u l r id room) e
+  own-only (calls frame room) fits e = from-found n (frame-found u l room) e
+  own-only (waits t room) fits e =
+      let g = tenths-give t u in
+      let z : _≡_ {A = ℕ} 0 1 = cc (g .1) in
+      absurd (omega arith)
+
+-- And for each of them it is refused
+module _ (u : TagUnit) (l : RecordLines u) where
+  nonce-refused : (nonce : List ℕ) → nonceFits u nonce ≡ false → issuing nonce u ≡ refusing 3 u
+  unfolding issuing
+  nonce-refused nonce e = rw e
+
+  not-eight : (nonce : List ℕ) → (length nonce ≡ 8 → ⊥) → nonceFits u nonce ≡ false
+  unfolding nonceFits
+  not-eight nonce h = and-fails-left _ (ne-eqb (length nonce) 8 h)
+
+  again : (nonce : List ℕ) → u .nonce .held ≡ true → nonce ≡ u .nonce .bytes → nonceFits u nonce ≡ false
+  unfolding nonceFits
+  again nonce held e = and-fails-right (eqb (length nonce) 8) (ap not (both held (equal-same (u .nonce .bytes) nonce (sym e))))
+
+  too-high : (level : ℕ) → 3 < level → charged level u ≡ refusing 1 u
+  unfolding charged
+  too-high level h = rw (lt-leb level 3 h)
+
+  not-sixteen : (key : List ℕ) → (length key ≡ 16 → ⊥) → keeping key u ≡ refusing 4 u
+  unfolding keeping
+  not-sixteen key h = rw (ne-eqb (length key) 16 h)
+
+  not-among : (key : List ℕ) → u .accounts .count ≡ 5 → ((p : ℕ) → p < 5 → keyAtPlace u p ≡ key → ⊥) → among key (heldKeys (u .accounts)) ≡ false
+  not-among key count new =
+      fails (among key (heldKeys (u .accounts)))
+      (λ e.
+      let found = among-found key (heldKeys (u .accounts)) e in
+      let below : found .0 < 5 = omega (arith, found .1, held-count (u .accounts)) in
+      new (found .0) below (sym (key-at u (found .0) (omega arith)) ∙ sym (found .2)))
+
+  no-room-for : (key : List ℕ) → u .accounts .count ≡ 5 → ((p : ℕ) → p < 5 → keyAtPlace u p ≡ key → ⊥) → keeping key u ≡ refusing 4 u
+  unfolding keeping
+  no-room-for key count new =
+      let absent : among key (heldKeys (u .accounts)) ≡ false = not-among key count new in
+      let most : ltb (u .accounts .count) 5 ≡ false = le-ltb (u .accounts .count) 5 (omega arith) in
+      rw (absent, most) (same-either (not (eqb (length key) 16)) (refusing 4 u))
+
+  wrong-sizes : (r id : List ℕ) → eqb (length r) 20 && eqb (length id) 20 ≡ false → lending r id u ≡ refusing 1 u
+  unfolding lending
+  wrong-sizes r id e = rw e
+
+  lent-keyless : (r id : List ℕ) → length r ≡ 20 → length id ≡ 20 → u .identity .held ≡ false → lending r id u ≡ refusing 5 u
+  unfolding lending
+  lent-keyless r id m n e = rw (eq-eqb (length r) 20 m, eq-eqb (length id) 20 n, e)
+
+  no-frame : stands u ≡ false → showing u ≡ refusing 5 u
+  unfolding showing
+  no-frame e = rw e
+
+  pub own-refuses : {a : Act} {n : ℕ} → Own u a n → wellFormed u ≡ true → 42 ≤ roomFor a → step a u .result ≡ refuses n
+  unfolding ownCall
+  own-refuses {a} (nonceLength {nonce} h) right fits = rw (through a u fits right, nonce-refused nonce (not-eight nonce h))
+  own-refuses {a} (lastIssued {nonce} held e) right fits = rw (through a u fits right, nonce-refused nonce (again nonce held e))
+  own-refuses (ofWrite {w} {room} {n} r) right fits = write-refused u room (w .bytes) n right fits r .number
+  own-refuses {a} (batteryLevel {level} h) right fits = rw (through a u fits right, too-high level h)
+  own-refuses {a} (keyLength {key} h) right fits = rw (through a u fits right, not-sixteen key h)
+  own-refuses {a} (sixthKey {key} count new) right fits = rw (through a u fits right, no-room-for key count new)
+  own-refuses {a} (rLength {r} {id} h) right fits = rw (through a u fits right, wrong-sizes r id (and-fails-left _ (ne-eqb (length r) 20 h)))
+  own-refuses {a} (identifierLength {r} {id} h) right fits =
+      rw (through a u fits right, wrong-sizes r id (and-fails-right (eqb (length r) 20) (ne-eqb (length id) 20 h)))
+  own-refuses {a} (lentWithoutKey {r} {id} m n e) right fits = rw (through a u fits right, lent-keyless r id m n e)
+  own-refuses {a} (frameWithoutKey e) right fits = rw (through a u fits right, no-frame (and-fails-left _ e))
+  own-refuses {a} (frameWithoutIdentifier e) right fits =
+      rw (through a u fits right, no-frame (and-fails-right (u .identity .held) (and-fails-left _ e)))
+  own-refuses {a} (otherWindow h) right fits =
+      rw (
+        through a u fits right,
+        no-frame (and-fails-right (u .identity .held) (and-fails-right (u .identifier .held) (ne-eqb _ _ (λ k. h (k ∙ window-is (u .clock .seconds)))))),
+      )

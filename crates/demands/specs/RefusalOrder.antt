@@ -1,0 +1,77 @@
+-- The refusal list over all calls, in literal numbers: "Each is given exactly then .. Order: 6, 2, then the call's own; for a lent identifier
+-- 2, then 1, then 5. A new unit checks only 1." A call is refused with a number exactly if one of the lines below gives that number, and then
+-- the unit is as it was; a write that is refused with 0x80, 0x81 or 0x82 only spends its nonce.
+use Prim.Native.Nat.{ℕ, _*_, _/_, _≤_, _<_}
+use mathlib.Core.Path.{_≡_}
+use mathlib.Core.Bool.{true, false}
+use mathlib.Core.List.{List}
+use lib.ListN.{length}
+use lib.IntN.{ℤ, pos, negℤ}
+use lib.Signed.{_<ℤ_}
+use Rattle.laws.specs.Answer.{refuses}
+use Rattle.unit.specs.declared.TagUnit.{TagUnit}
+use Rattle.unit.specs.WellFormed.{wellFormed}
+use Rattle.tag.specs.Calls.{newUnit, Written, read, write, button, battery, accountKey, identifier, frame, Act, calls, waits}
+use Rattle.demands.specs.History.{step}
+use Rattle.demands.specs.Spelled.{keyAtPlace, OnlySpends}
+use Rattle.demands.specs.Refused.{Reason}
+
+-- "Calls with answer bytes: read, write, button, elapsed, frame." The act, and how many it is lent
+pub data Lent : Act → ℕ → Type 0 where
+  toRead : {nonce : List ℕ} {room : ℕ} → Lent (calls (read nonce) room) room
+  toWrite : {w : Written} {room : ℕ} → Lent (calls (write w) room) room
+  toButton : {room : ℕ} → Lent (calls button room) room
+  toFrame : {room : ℕ} → Lent (calls frame room) room
+  toElapsed : {tenths room : ℕ} → Lent (waits tenths room) room
+
+-- a call's own refusals, on a well-formed unit. Button, elapsed and pairing have none
+pub data Own (u : TagUnit) : Act → ℕ → Type 0 where
+  -- 3: "lent nonce not 8 bytes, or equal to the last issued"
+  nonceLength : {nonce : List ℕ} {room : ℕ} → (length nonce ≡ 8 → ⊥) → Own u (calls (read nonce) room) 3
+  lastIssued : {nonce : List ℕ} {room : ℕ} → u .nonce .held ≡ true → nonce ≡ u .nonce .bytes → Own u (calls (read nonce) room) 3
+  -- 0x80, 0x81, 0x82
+  ofWrite : {w : Written} {room n : ℕ} → Reason u (w .bytes) n → Own u (calls (write w) room) n
+  -- 1: "settings or battery out of range"
+  batteryLevel : {level room : ℕ} → 3 < level → Own u (calls (battery level) room) 1
+  -- 4: "account key not 16 bytes, or a sixth new key"; "Adding a key already held succeeds and changes nothing, even when full."
+  keyLength : {key : List ℕ} {room : ℕ} → (length key ≡ 16 → ⊥) → Own u (calls (accountKey key) room) 4
+  sixthKey : {key : List ℕ} {room : ℕ} → u .accounts .count ≡ 5 → ((p : ℕ) → p < 5 → keyAtPlace u p ≡ key → ⊥)
+      → Own u (calls (accountKey key) room) 4
+  -- 1: "lent r or identifier not 20 bytes", before 5: "no identity key for a lent identifier"
+  rLength : {r id : List ℕ} {room : ℕ} → (length r ≡ 20 → ⊥) → Own u (calls (identifier r id) room) 1
+  identifierLength : {r id : List ℕ} {room : ℕ} → (length id ≡ 20 → ⊥) → Own u (calls (identifier r id) room) 1
+  lentWithoutKey : {r id : List ℕ} {room : ℕ} → length r ≡ 20 → length id ≡ 20 → u .identity .held ≡ false
+      → Own u (calls (identifier r id) room) 5
+  -- 5: "no frame", which is "without a key or an identifier for the current window"; "The window is the seconds with the low 10 bits cleared"
+  frameWithoutKey : {room : ℕ} → u .identity .held ≡ false → Own u (calls frame room) 5
+  frameWithoutIdentifier : {room : ℕ} → u .identifier .held ≡ false → Own u (calls frame room) 5
+  otherWindow : {room : ℕ} → (u .identifier .window ≡ 1024 * (u .clock .seconds / 1024) → ⊥) → Own u (calls frame room) 5
+
+-- why an act is refused on a unit, with its number, in order
+pub data Refusal (u : TagUnit) (a : Act) : ℕ → Type 0 where
+  -- 6: "lent answer bytes fewer than 42", whatever the unit
+  tooLittleRoom : {room : ℕ} → Lent a room → room < 42 → Refusal u a 6
+  -- 2: "unit not well formed", where 6 is not due
+  notWellFormed : ((room : ℕ) → Lent a room → 42 ≤ room) → wellFormed u ≡ false → Refusal u a 2
+  own : {n : ℕ} → ((room : ℕ) → Lent a room → 42 ≤ room) → wellFormed u ≡ true → Own u a n → Refusal u a n
+
+-- "settings .. out of range"
+pub data OutOfRange (power : ℤ) (components selectable : ℕ) : Type 0 where
+  powerTooLow : power <ℤ negℤ (pos 100) → OutOfRange power components selectable
+  powerTooHigh : pos 20 <ℤ power → OutOfRange power components selectable
+  tooManyComponents : 3 < components → OutOfRange power components selectable
+  notSelectableOrNot : 1 < selectable → OutOfRange power components selectable
+
+pub record RefusalOrder : Type 0 where
+  pub refused : (a : Act) (u : TagUnit) (n : ℕ) → Refusal u a n → step a u .result ≡ refuses n
+  pub onlyThen : (a : Act) (u : TagUnit) (n : ℕ) → step a u .result ≡ refuses n → Refusal u a n
+  -- the unit afterwards, by the number
+  pub same : (a : Act) (u : TagUnit) (n : ℕ) → n < 0x80 → step a u .result ≡ refuses n → step a u .unit ≡ u
+  pub spent : (a : Act) (u : TagUnit) (n : ℕ) → 0x80 ≤ n → step a u .result ≡ refuses n → OnlySpends u (step a u .unit)
+  -- a new unit: 1, and then none is made
+  pub newUnits : (power : ℤ) (components selectable : ℕ) → OutOfRange power components selectable
+      → newUnit power components selectable .result ≡ refuses 1
+  pub newUnitsOnlyThen : (power : ℤ) (components selectable n : ℕ) → newUnit power components selectable .result ≡ refuses n
+      → (n ≡ 1) × OutOfRange power components selectable
+  pub noneMade : (power : ℤ) (components selectable : ℕ) → OutOfRange power components selectable
+      → wellFormed (newUnit power components selectable .unit) ≡ false
