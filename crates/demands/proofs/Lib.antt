@@ -26,6 +26,7 @@ pub mod MaskBits
 pub mod RecordLines
 pub mod Sent
 pub mod RingValues
+pub mod Refusing
 pub mod Reasons
 pub mod Refused
 pub mod LentRoom

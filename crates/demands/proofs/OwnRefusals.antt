@@ -32,7 +32,8 @@ use Rattle.demands.proofs.Choices.{tested}
 use Rattle.demands.proofs.Ends.{tenths-give}
 use Rattle.demands.proofs.Guards.{roomFor, ownOf}
 use Rattle.demands.proofs.RecordLines.{key-at, among-found}
-use Rattle.demands.proofs.Reasons.{one-fails, same-either}
+use Rattle.demands.proofs.Refusing.{same-either}
+use Rattle.demands.proofs.Reasons.{one-fails}
 use Rattle.demands.proofs.Refused.{write-refused, only-for-a-reason}
 use Rattle.demands.proofs.LentRoom.{through}
 

@@ -49,11 +49,6 @@ pub proof-wrong : (u : TagUnit) (proof : List ℕ) → proves u proof ≡ false 
 unfolding keyProof
 proof-wrong u proof h e = same-differ (proofFrom (u .identity .bytes) (u .nonce .bytes)) proof h (sym e)
 
--- A choice between equals
-pub same-either : {A : Type 0} (b : Bool) (x : A) → cond b x x ≡ x
-same-either true x = refl
-same-either false x = refl
-
 -- Two tests of which one fails
 pub one-fails : (a b : Bool) → a && b ≡ false → (a ≡ false) ⊎ ((a ≡ true) × (b ≡ false))
 one-fails true b h = inr (refl, h)

@@ -112,7 +112,7 @@ module _ (u : TagUnit) (l : Lines u) where
       record {
         keyed = r .identityHeld;
         someMask = r .some;
-        noBitOutside = λ i h. no-bit mask (u .settings .components) i (inside-below mask (u .settings .components) (r .within)) h;
+        noBitOutside = λ i h. no-bit mask (u .settings .components) i (inside-below mask (u .settings .components) (r .within)) (omega arith);
         loudest = r .atVolume .most;
         notSelectable = r .atVolume .fixed;
         leastLeft = r .least;
@@ -187,7 +187,7 @@ module _ (u : TagUnit) (l : RecordLines u) where
       go (inl e) = below-inside mask (u .settings .components) (ltb-true _ _ e)
       go (inr e) =
           let bit = bit-from mask (u .settings .components) (ltb-false _ _ e) in
-          absurd (omega (arith, bit .2, none (bit .0) (bit .1)))
+          absurd (omega (arith, bit .2, none (bit .0) (omega (arith, bit .1))))
 
   sound-legal : (s : Sound) → u .sound ≡ s → soundLegal s (u .«ring_nonce») (u .settings) (u .identity .held) ≡ true
   unfolding soundLegal

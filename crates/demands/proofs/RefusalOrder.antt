@@ -22,7 +22,7 @@ use Rattle.tag.specs.Calls.{newUnit, Act}
 use Rattle.demands.specs.Ends.{Spending, Plain, Ended, notAuthenticated, invalidValue, noConsent, outOfRange, notWellFormed as plainNotWellFormed, wrongNonce, wrongAccountKey, noFrame, noRoom, withAnswer, refusedSpent, refusedSame}
 use Rattle.demands.specs.History.{step}
 use Rattle.demands.specs.Spelled.{OnlySpends}
-use Rattle.demands.specs.RefusalOrder.{Refusal, tooLittleRoom, notWellFormed, own, OutOfRange, powerTooLow, powerTooHigh, tooManyComponents, notSelectableOrNot, RefusalOrder}
+use Rattle.demands.specs.RefusalOrder.{Refusal, tooLittleRoom, notWellFormed, own, OutOfRange, powerTooLow, powerTooHigh, tooManyComponents, selectableOverOne, RefusalOrder}
 use Rattle.demands.proofs.Ends.{demand1, no-unit}
 use Rattle.demands.proofs.Guards.{roomFor}
 use Rattle.demands.proofs.RecordLines.{least-power, most-power, power-legal, well-formed-exactly}
@@ -98,7 +98,7 @@ module _ (power : ℤ) (components selectable : ℕ) where
       go (powerTooLow h) s = clashℤ h (least-power power (s .power))
       go (powerTooHigh h) s = clashℤ h (most-power power (s .power))
       go (tooManyComponents h) s = omega (arith, s .components)
-      go (notSelectableOrNot h) s = omega (arith, s .selectable)
+      go (selectableOverOne h) s = omega (arith, s .selectable)
 
   was-made : settingsLegal asked ≡ true → newUnit power components selectable .result ≡ gives []
   unfolding newUnit
@@ -118,7 +118,7 @@ module _ (power : ℤ) (components selectable : ℕ) where
       go (inl e) b c d = inl (powerTooLow (ltZ-yes (rw e tt)))
       go (inr e) (inl b) c d = inl (powerTooHigh (ltZ-yes (rw b tt)))
       go (inr e) (inr b) (inr c) d = inl (tooManyComponents (leb-false _ _ c))
-      go (inr e) (inr b) (inl c) (inr d) = inl (notSelectableOrNot (leb-false _ _ d))
+      go (inr e) (inr b) (inl c) (inr d) = inl (selectableOverOne (leb-false _ _ d))
       go (inr e) (inr b) (inl c) (inl d) =
           inr
           (settings-legal asked

@@ -1,5 +1,6 @@
 -- "What a unit holds", line by line and in literal numbers: a record is well formed exactly if it breaks none of these lines. What does not
 -- stand here is allowed: a ring without a last nonce or with another, an identifier of another window than the clock's, consent without a key.
+-- (That seconds have 32 bits, that flags are 0 or 1 and how long each room is, the types of the record say.)
 use Prim.Native.Nat.{ℕ, _*_, _/_, _%_, _^_, _≤_, _<_}
 use mathlib.Core.Path.{_≡_}
 use mathlib.Core.Bool.{Bool, true, false}

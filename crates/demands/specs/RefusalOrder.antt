@@ -60,7 +60,7 @@ pub data OutOfRange (power : ℤ) (components selectable : ℕ) : Type 0 where
   powerTooLow : power <ℤ negℤ (pos 100) → OutOfRange power components selectable
   powerTooHigh : pos 20 <ℤ power → OutOfRange power components selectable
   tooManyComponents : 3 < components → OutOfRange power components selectable
-  notSelectableOrNot : 1 < selectable → OutOfRange power components selectable
+  selectableOverOne : 1 < selectable → OutOfRange power components selectable
 
 pub record RefusalOrder : Type 0 where
   pub refused : (a : Act) (u : TagUnit) (n : ℕ) → Refusal u a n → step a u .result ≡ refuses n

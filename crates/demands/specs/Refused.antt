@@ -1,11 +1,11 @@
 -- Demand 2, that no other write is served: why a write is refused with 0x80, 0x81 or 0x82, in literal numbers. Exactly for these reasons, and
--- each only spends the nonce. So a write that has none of them is served, and `Accepted` says with what.
+-- each only spends the nonce. A write that has none of them is served, and `Accepted` says with what.
 use Prim.Native.Nat.{ℕ, _+_, _*_, _/_, _%_, _^_, _≤_, _<_}
 use mathlib.Core.Path.{_≡_}
 use mathlib.Core.Bool.{true, false}
 use mathlib.Core.List.{List, [], _∷_, _++_}
 use lib.ListN.{length, drop}
-use Rattle.laws.specs.Answer.{refuses}
+use Rattle.laws.specs.Answer.{gives, refuses}
 use Rattle.unit.specs.declared.TagUnit.{TagUnit}
 use Rattle.unit.specs.declared.Owner.{Owner}
 use Rattle.unit.specs.declared.Protection.{Protection}
@@ -118,3 +118,5 @@ pub record Refused : Type 0 where
   pub onlyThen : (u : TagUnit) (room : ℕ) (w : List ℕ) (n : ℕ) → wellFormed u ≡ true → 42 ≤ room
       → step (writes w room) u .result ≡ refuses n
       → Reason u w n
+  pub served : (u : TagUnit) (room : ℕ) (w : List ℕ) → wellFormed u ≡ true → 42 ≤ room → ((n : ℕ) → Reason u w n → ⊥)
+      → (answer : List ℕ) × (step (writes w room) u .result ≡ gives answer)
