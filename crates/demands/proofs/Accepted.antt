@@ -1,46 +1,56 @@
--- Valid writes and reads are served. Each law of a write follows the write to the judgement of its ID (Judging) and there opens every check by what the unit
--- permits: the tag is the key's own, the proof is the held key's own, the first key that makes the tag is the one meant.
-use Prim.Native.Nat.{ℕ, zero, suc, _+_, _≤_, _<_}
+-- Valid writes and reads are served, in literal numbers. Each law of a write follows the write to the judgement of its ID (Judging) and there opens
+-- every check by what the unit permits: the tag is the key's own, the proof is the held key's own, the first key that makes the tag is the
+-- one meant. What the definitions then give is, opened, what the literal terms say.
+use Prim.Native.Nat.{ℕ, zero, suc, _+_, _/_, _%_, _≤_, _<_}
 use mathlib.Core.Path.{_≡_, refl, ap, _∙_}
-use mathlib.Core.Bool.{Bool, true, false, _&&_, _||_}
+use mathlib.Core.Bool.{Bool, true, false, cond, _&&_, _||_}
 use mathlib.Core.List.{List, [], _∷_, _++_}
+use mathlib.Core.Logic.{_⊎_, inl, inr}
 use mathlib.Core.Option.{some}
 use native.Mathlib.Omega.{arith}
-use lib.Dec.{ltb}
-use lib.ListN.{length, getD, length-append}
-use lib.Seq.{drop-at}
-use borrow.Author.Tests.{le-leb, eq-eqb}
-use Rattle.laws.specs.Bytes.{sameBytes}
-use Rattle.laws.proofs.Flags.{or-right}
+use lib.Dec.{eqb, ltb}
+use lib.ListN.{length, getD, drop, length-append, length-drop}
+use lib.Seq.{drop-at, take-append-le, drop-append-le}
+use borrow.Author.Tests.{le-leb, lt-ltb, eq-eqb, ne-eqb}
+use Rattle.laws.specs.Bytes.{bigEndian, sameBytes}
+use Rattle.laws.proofs.Flags.{or-left, or-right}
 use Rattle.laws.proofs.Same.{same-refl, differ-same}
-use Rattle.sizes.specs.Sizes.{tagSize, answerRoom, nonceSize}
-use Rattle.wire.specs.Signing.{version, requestTag, keyProof, recoveryKey, ringKey, protectionKey}
-use Rattle.wire.specs.Shape.{Request, provenSize, sizeLegal, oneOf, legalSizes}
-use Rattle.unit.specs.declared.TagUnit.{TagUnit}
-use Rattle.unit.specs.WellFormed.{wellFormed, heldKeys, ownerKey}
-use Rattle.unit.specs.Standing.{shownIdentifier}
-use Rattle.unit.specs.Change.{spent, withNonce}
-use Rattle.unit.specs.Outcome.{giving}
 use Rattle.tables.specs.Rows.{firstThat}
-use Rattle.authentication.specs.Judgement.{accepts, lastNonce, tagged, usedKey, signedByOwner}
-use Rattle.provisioning.specs.Provisioning.{parameters, readParameters, readState, setKey, mayReplace, clearKey, recoverKey}
+use Rattle.wire.specs.Signing.{requestTag, keyProof, derivedKey, recoveryKey, ringKey, protectionKey, answerTag, signed, ringNotice}
+use Rattle.wire.specs.Shape.{Request, sizeLegal, oneOf, legalSizes}
+use Rattle.wire.specs.KeyBlocks.{decryptedKey, encryptedKey}
+use Rattle.unit.specs.declared.TagUnit.{TagUnit}
+use Rattle.unit.specs.declared.Sound.{Sound}
+use Rattle.unit.specs.declared.Protection.{Protection}
+use Rattle.unit.specs.WellFormed.{wellFormed, heldKeys, ownerKey}
+use Rattle.unit.specs.Change.{spent, silenced, withNonce, withAccounts, withSound, withProtection}
+use Rattle.unit.specs.Outcome.{giving}
+use Rattle.unit.proofs.Lines.{lines, held-count}
+use Rattle.authentication.specs.Judgement.{accepts, tagged, usedKey, signedByOwner}
+use Rattle.provisioning.specs.Provisioning.{ownedBy, rekeyed, cleared, readParameters, readState, setKey, mayReplace, clearKey, recoverKey}
 use Rattle.ringing.specs.Ringing.{skips, ring, rung, readSound}
 use Rattle.ringing.specs.Protecting.{protect, unprotect}
 use Rattle.requests.specs.Write.{byId, needsKey}
 use Rattle.tag.specs.Own.{issuing, nonceFits}
-use Rattle.tag.specs.Calls.{read, own, guarded, call, calls, act}
-use Rattle.demands.specs.Accepted.{built, Open, keyAt, First, Serves, Accepted}
-use Rattle.demands.specs.History.{step}
+use Rattle.tag.specs.Calls.{read, own, guarded, call, Act, calls, act}
+use Rattle.demands.specs.History.{step, writes}
+use Rattle.demands.specs.Spelled.{keyAtPlace, OwnedWith, NonceSpent, OnlySpends}
+use Rattle.demands.specs.Accepted.{Serves, Open, sent, answer, First, ownerBit, standing, OwnerKnown, Rekeyed, Cleared, startNotice, stopNotice, RingLegal, ringBytes, Rings, Stopped, Protects, Accepted}
+use Rattle.demands.proofs.Spelling.{parameters-are, timeout-is, meant, ring-legal, stop-legal, key-at, owner-at, claimed-owner, claimed-count, claimed-keys, owner-bit, standing-is, sound-state}
 use Rattle.demands.proofs.Judging.{opened, length-requestTag, length-keyProof, requestOf, accepted-as, own-tag}
 
+-- an act whose outcome is known is served with what that outcome gives
+pub serves : {a : Act} {u v : TagUnit} {answer : List ℕ} {Left : TagUnit → Type 0} → step a u ≡ giving answer v → Left v → Serves a u answer Left
+serves e l = record { answered = rw e; left = rw e l }
+
 -- A read of a nonce that is not the last issued
-pub reads : (u : TagUnit) (room : ℕ) (nonce : List ℕ) → wellFormed u ≡ true → answerRoom ≤ room → length nonce ≡ nonceSize
+pub reads : (u : TagUnit) (room : ℕ) (nonce : List ℕ) → wellFormed u ≡ true → 42 ≤ room → length nonce ≡ 8
     → u .nonce .held && sameBytes (u .nonce .bytes) nonce ≡ false
-    → step (calls (read nonce) room) u ≡ giving (version ∷ nonce) (withNonce (record { held = true; live = true; bytes = nonce }) u)
+    → step (calls (read nonce) room) u ≡ giving (0x01 ∷ nonce) (withNonce (record { held = true; live = true; bytes = nonce }) u)
 unfolding act call guarded own issuing nonceFits
 reads u room nonce right fits long other =
     opened u room (issuing nonce u) right fits
-    ∙ rw (eq-eqb (length nonce) nonceSize long, other)
+    ∙ rw (eq-eqb (length nonce) 8 long, other)
 
 not-last : (held : Bool) (last nonce : List ℕ) → (held ≡ true → last ≡ nonce → ⊥) → held && sameBytes last nonce ≡ false
 not-last true last nonce other = differ-same last nonce (other refl)
@@ -57,89 +67,222 @@ first-found test (k ∷ ks) (suc p) short before here =
 
 -- The request that a key signs with the unit's nonce
 abbrev asked : TagUnit → ℕ → ℕ → List ℕ → List ℕ → Request
-asked u id size key additional = requestOf id size (requestTag key (lastNonce u) id size additional) additional
+asked u id size key additional = requestOf id size (requestTag key (u .nonce .bytes) id size additional) additional
 
-first-tagged : (u : TagUnit) (id p : ℕ) → First u id p → usedKey (spent u) (asked u id tagSize (keyAt u p) []) ≡ some (keyAt u p)
-unfolding usedKey tagged
-first-tagged u id p first =
-    first-found (λ k. tagged k (lastNonce u) (asked u id tagSize (keyAt u p) [])) (heldKeys (u .accounts)) p (first .0)
-    (λ j h. differ-same (requestTag (keyAt u j) (lastNonce u) id tagSize []) (requestTag (keyAt u p) (lastNonce u) id tagSize []) (first .1 j h))
-    (own-tag (keyAt u p) (lastNonce u) id tagSize [])
+first-tagged : (u : TagUnit) (id p : ℕ) → First u id p → usedKey (spent u) (asked u id 8 (keyAtPlace u p) []) ≡ some (keyAtPlace u p)
+unfolding usedKey tagged requestTag
+first-tagged u id p (held, first) =
+    let key = keyAtPlace u p in
+    let q = asked u id 8 key [] in
+    let made : (k : List ℕ) → List ℕ = λ k. requestTag k (u .nonce .bytes) id 8 [] in
+    first-found (λ k. tagged k (u .nonce .bytes) q) (heldKeys (u .accounts)) p (omega (arith, held-count (u .accounts)))
+    (λ j h. rw (key-at u j (omega arith)) (differ-same (made (keyAtPlace u j)) (made key) (first j h)))
+    (rw (key-at u p held) (own-tag key (u .nonce .bytes) id 8 []))
+    ∙ ap some (key-at u p held)
 
 -- The owner's key, where it signed the request
 owner-tagged : (u : TagUnit) (id size : ℕ) (key additional : List ℕ) → ownerKey (u .accounts) ≡ some key
     → signedByOwner (spent u) (asked u id size key additional) ≡ some key
 unfolding signedByOwner
-owner-tagged u id size key additional e = rw (e, own-tag key (lastNonce u) id size additional)
+owner-tagged u id size key additional e = rw (e, own-tag key (u .nonce .bytes) id size additional)
 
 -- Where the size is known, a write that a key signed comes to its judgement
-signed-as : (u : TagUnit) (room id size : ℕ) (key additional : List ℕ) {after : TagUnit} {answer : List ℕ} → tagSize + length additional ≡ size
-    → Open u room → sizeLegal id size ≡ true → (ltb id needsKey || u .identity .held) ≡ true
-    → byId (spent u) (asked u id size key additional) ≡ accepts after answer
-    → Serves (built id key u additional) room u answer after
-unfolding built
-signed-as u room id size key additional sized ready legal there judgement =
+signed-as : (u : TagUnit) (room id size : ℕ) (key additional : List ℕ) {after : TagUnit} {answer : List ℕ} {Left : TagUnit → Type 0}
+    → 8 + length additional ≡ size → Open u room → sizeLegal id size ≡ true → (ltb id needsKey || u .identity .held) ≡ true
+    → byId (spent u) (asked u id size key additional) ≡ accepts after answer → Left after
+    → Serves (writes (sent u id key additional) room) u answer Left
+unfolding requestTag
+signed-as u room id size key additional sized ready legal there judgement left =
     rw sized
-    (accepted-as id size (asked u id size key additional .tag) additional (length-requestTag key (lastNonce u) id size additional)
+    (serves
+    (accepted-as id size (asked u id size key additional .tag) additional (length-requestTag key (u .nonce .bytes) id size additional)
     sized ready legal there judgement)
+    left)
+
+-- What stays in each unit that a write leaves
+spends : (u v : TagUnit) → v .nonce ≡ spent u .nonce → NonceSpent u v
+spends u v e = record { held = rw e; bytes = rw e; dead = rw e }
+
+only-spends : (u : TagUnit) → OnlySpends u (spent u)
+only-spends u = record { nonceSpent = spends u _ refl; rest = (refl, refl, tt, refl, refl, refl, refl, refl, refl, refl, refl, refl) }
+
+owner-known : (u : TagUnit) → wellFormed u ≡ true → (p : ℕ) → p < u .accounts .count
+    → OwnerKnown p u (withAccounts (ownedBy (keyAtPlace u p) (u .accounts)) (spent u))
+owner-known u right p held =
+    record {
+      nonceSpent = spends u _ refl;
+      count = claimed-count u (lines u right) p held (u .accounts .owner);
+      keys = claimed-keys u (lines u right) p held (u .accounts .owner);
+      owner = claimed-owner u (lines u right) p held (u .accounts .owner) refl;
+      rest = (refl, refl, tt, tt, refl, refl, refl, refl, refl, refl, refl, refl);
+    }
+
+-- the first 32 bytes are the two blocks, whatever follows them
+rekeys : (u : TagUnit) (key C : List ℕ) → Rekeyed key C u (rekeyed (decryptedKey key C) (spent u))
+unfolding decryptedKey
+rekeys u key C =
+    record {
+      nonceSpent = spends u _ refl;
+      identityIs = refl;
+      silent = (refl, refl);
+      unlent = refl;
+      rest = (refl, refl, tt, refl, tt, tt, tt, refl, refl, refl, refl, tt);
+    }
+
+two-blocks : (key C more : List ℕ) → length C ≡ 32 → decryptedKey key (C ++ more) ≡ decryptedKey key C
+unfolding decryptedKey
+two-blocks key C more n =
+    let first : 16 ≤ length C = omega arith in
+    let second : 16 ≤ length (drop 16 C) = simp length-drop (omega arith) in
+    rw (take-append-le, drop-append-le, take-append-le)
+
+rekeys-first : (u : TagUnit) (key C more : List ℕ) → length C ≡ 32 → Rekeyed key C u (rekeyed (decryptedKey key (C ++ more)) (spent u))
+rekeys-first u key C more n = rw (two-blocks key C more n) (rekeys u key C)
+
+clears : (u : TagUnit) → Cleared u (cleared (spent u))
+unfolding cleared
+clears u =
+    record {
+      nonceSpent = spends u _ refl;
+      keyless = refl;
+      unset = refl;
+      silent = (refl, refl);
+      unprotected = refl;
+      unconsented = refl;
+      unlent = refl;
+      rest = (refl, refl, tt, tt, tt, tt, tt, tt, tt, refl, refl, tt);
+    }
+
+protects-as : (p : Protection) (u : TagUnit) → Protects p u (withProtection p (spent u))
+protects-as p u =
+    record { nonceSpent = spends u _ refl; protectionIs = refl; rest = (refl, refl, tt, refl, refl, refl, refl, tt, refl, refl, refl, refl) }
+
+stopped : (u : TagUnit) → Stopped u (silenced (spent u))
+stopped u = record { nonceSpent = spends u _ refl; silent = (refl, refl); rest = (refl, refl, tt, refl, refl, tt, tt, refl, refl, refl, refl, refl) }
+
+rings-as : (mask timeout volume : ℕ) (u : TagUnit)
+    → Rings mask timeout volume u (withSound (Sound.Ringing mask (cond (eqb (u .settings .selectable) 0) 0 volume) timeout) (u .nonce .bytes) (spent u))
+rings-as mask timeout volume u =
+    record { nonceSpent = spends u _ refl; soundIs = refl; nonceKept = refl; rest = (refl, refl, tt, refl, refl, tt, tt, refl, refl, refl, refl, refl) }
+
+-- consent left or pairing on, as a test
+consenting : (consent : ℕ) (pairing : Bool) → (0 < consent) ⊎ (pairing ≡ true) → (ltb 0 consent || pairing) ≡ true
+consenting consent pairing (inl left) = or-left pairing (lt-ltb 0 consent left)
+consenting consent pairing (inr on) = or-right (ltb 0 consent) on
 
 -- The size of an 0x02 that proves the key held
-proven-sized : (C identity nonce : List ℕ) → length C ≡ 32 → tagSize + length (C ++ keyProof identity nonce) ≡ provenSize
-proven-sized C identity nonce n = omega (arith, length-append C (keyProof identity nonce), length-keyProof identity nonce)
+proven-sized : (C proof : List ℕ) → length C ≡ 32 → length proof ≡ 8 → 8 + length (C ++ proof) ≡ 48
+proven-sized C proof n p = omega (arith, length-append C proof)
+
+few : {u : TagUnit} {room : ℕ} → Open u room → u .settings .components ≤ 3
+few {u} ready = lines u (ready .formed) .settings .components
+
+-- A ring and a stop that pass, with whichever tag
+abbrev Passes : TagUnit → List ℕ → List ℕ → Type 0
+Passes u mark a = skips (u .protection) || tagged (ringKey (u .identity .bytes)) (u .nonce .bytes) (requestOf 0x05 12 mark a) ≡ true
+
+ring-judged : (u : TagUnit) (mark : List ℕ) (asked mask timeout volume : ℕ) → u .settings .components ≤ 3
+    → RingLegal (u .settings .components) asked mask timeout volume → Passes u mark (ringBytes asked timeout volume)
+    → ring (spent u) (requestOf 0x05 12 mark (ringBytes asked timeout volume))
+    ≡ accepts (withSound (Sound.Ringing mask (cond (eqb (u .settings .selectable) 0) 0 volume) timeout) (u .nonce .bytes) (spent u))
+    (startNotice u (u .nonce .bytes) 0 mask timeout)
+unfolding ring rung ringNotice signed answerTag derivedKey bigEndian
+ring-judged u mark asked mask timeout volume low legal passes =
+    let m = meant (u .settings) asked mask ((timeout / 256) ∷ (timeout % 256) ∷ volume ∷ []) low (legal .means) in
+    let ringing : eqb mask 0 ≡ false = ne-eqb mask 0 (λ e. omega (arith, legal .some)) in
+    let high : timeout / 256 % 256 ≡ timeout / 256 = omega (arith, legal .most) in
+    rw (passes, ring-legal (u .settings) asked mask timeout volume low legal, m .is, timeout-is asked timeout volume, ringing, high)
+
+stop-judged : (u : TagUnit) (mark : List ℕ) (high low volume : ℕ) → u .settings .components ≤ 3 → volume ≤ 3
+    → Passes u mark (0 ∷ high ∷ low ∷ volume ∷ [])
+    → ring (spent u) (requestOf 0x05 12 mark (0 ∷ high ∷ low ∷ volume ∷ [])) ≡ accepts (silenced (spent u)) (stopNotice u (u .nonce .bytes) 4)
+unfolding ring rung ringNotice signed answerTag derivedKey bigEndian
+stop-judged u mark high low volume few quiet passes = rw (passes, stop-legal (u .settings) high low volume few quiet)
+
+-- 0x01 and a first 0x02, for whatever is so of the unit that they leave
+pub serves-state : (u : TagUnit) (room p : ℕ) {Left : TagUnit → Type 0} → Open u room → First u 0x01 p
+    → Left (withAccounts (ownedBy (keyAtPlace u p) (u .accounts)) (spent u))
+    → Serves (writes (sent u 0x01 (keyAtPlace u p) []) room) u
+    (answer u 0x01 (keyAtPlace u p) ((cond (u .identity .held) 0x01 0x00 + ownerBit (u .accounts .owner) p) ∷ standing u))
+    Left
+unfolding byId sizeLegal oneOf legalSizes readState signed answerTag
+serves-state u room p ready first left =
+    let l = lines u (ready .formed) in
+    signed-as u room 0x01 8 (keyAtPlace u p) [] refl ready refl refl
+    (rw (first-tagged u 0x01 p first, owner-bit u l p (first .0) (u .accounts .owner) refl, standing-is u l))
+    left
+
+pub serves-key : (u : TagUnit) (room : ℕ) (key C : List ℕ) {Left : TagUnit → Type 0} → Open u room → OwnedWith u key → u .identity .held ≡ false
+    → length C ≡ 32 → Left (rekeyed (decryptedKey key C) (spent u))
+    → Serves (writes (sent u 0x02 key C) room) u (answer u 0x02 key []) Left
+unfolding byId sizeLegal oneOf legalSizes setKey mayReplace signed answerTag
+serves-key u room key C ready owner none n left =
+    signed-as u room 0x02 40 key C (omega arith) ready refl refl
+    (rw (owner-tagged u 0x02 40 key C (owner-at u key (ready .formed) owner), none))
+    left
 
 pub accepted : Accepted
-unfolding byId sizeLegal oneOf legalSizes readParameters parameters readState shownIdentifier setKey mayReplace clearKey recoverKey ring rung readSound protect unprotect
+unfolding byId sizeLegal oneOf legalSizes readParameters setKey mayReplace clearKey recoverKey ring rung readSound protect unprotect requestTag keyProof derivedKey signed answerTag ringNotice bigEndian encryptedKey
 accepted =
     record {
-      nonceRead = λ u room nonce right fits long other.
-          reads u room nonce right fits long (not-last (u .nonce .held) (u .nonce .bytes) nonce other);
+      nonceRead = λ u room lent right fits long other.
+          serves (reads u room lent right fits long (not-last (u .nonce .held) (u .nonce .bytes) lent other))
+          (record { nonceIs = refl; rest = (refl, refl, tt, refl, refl, refl, refl, refl, refl, refl, refl, refl) });
       parametersRead = λ u room p ready first.
-          signed-as u room 0x00 8 (keyAt u p) [] refl ready refl refl (rw (first-tagged u 0x00 p first));
-      stateRead = λ u room p ready first.
-          signed-as u room 0x01 8 (keyAt u p) [] refl ready refl refl (rw (first-tagged u 0x01 p first));
-      keySet = λ u room key C ready owner none n.
-          signed-as u room 0x02 40 key C (omega arith) ready refl refl
-          (rw (owner-tagged u 0x02 40 key C owner, none));
+          signed-as u room 0x00 8 (keyAtPlace u p) [] refl ready refl refl
+          (rw (first-tagged u 0x00 p first, parameters-are u)) (only-spends u);
+      stateRead = λ u room p ready first. serves-state u room p ready first (owner-known u (ready .formed) p (first .0));
+      keySet = λ u room key C ready owner none n. serves-key u room key C ready owner none n (rekeys u key C);
       keyReplaced = λ u room key C ready owner held n.
-          let proof = keyProof (u .identity .bytes) (lastNonce u) in
-          let sized = proven-sized C (u .identity .bytes) (lastNonce u) n in
+          let proof = keyProof (u .identity .bytes) (u .nonce .bytes) in
+          let sized = proven-sized C proof n (length-keyProof (u .identity .bytes) (u .nonce .bytes)) in
           signed-as u room 0x02 48 key (C ++ proof) sized ready refl refl
-          (rw (owner-tagged u 0x02 48 key (C ++ proof) owner, held, drop-at C proof 32 n, same-refl proof));
+          (rw (owner-tagged u 0x02 48 key (C ++ proof) (owner-at u key (ready .formed) owner), held, drop-at C proof 32 n, same-refl proof))
+          (rekeys-first u key C proof n);
       keyCleared = λ u room key ready owner held.
-          let proof = keyProof (u .identity .bytes) (lastNonce u) in
-          let sized = ap (λ (n : ℕ). 8 + n) (length-keyProof (u .identity .bytes) (lastNonce u)) in
+          let proof = keyProof (u .identity .bytes) (u .nonce .bytes) in
+          let sized = ap (λ (n : ℕ). 8 + n) (length-keyProof (u .identity .bytes) (u .nonce .bytes)) in
           signed-as u room 0x03 16 key proof sized ready refl held
-          (rw (owner-tagged u 0x03 16 key proof owner, same-refl proof));
+          (rw (owner-tagged u 0x03 16 key proof (owner-at u key (ready .formed) owner), same-refl proof))
+          (clears u);
       keyRecovered = λ u room key ready owner held consent.
           let by = recoveryKey (u .identity .bytes) in
           signed-as u room 0x04 8 by [] refl ready refl held
-          (rw (owner, own-tag by (lastNonce u) 0x04 8 [], consent));
-      rings = λ u room a ready held n legal mask.
+          (rw (owner-at u key (ready .formed) owner, own-tag by (u .nonce .bytes) 0x04 8 [], consenting (u .consent) (u .pairing) consent))
+          (only-spends u);
+      rings = λ u room asked mask timeout volume ready held legal.
           let key = ringKey (u .identity .bytes) in
-          signed-as u room 0x05 12 key a (omega arith) ready refl held
-          (rw (or-right (skips (u .protection)) (own-tag key (lastNonce u) 0x05 12 a), legal, mask));
-      stops = λ u room a ready held n legal mask.
+          let passes = or-right (skips (u .protection)) (own-tag key (u .nonce .bytes) 0x05 12 (ringBytes asked timeout volume)) in
+          signed-as u room 0x05 12 key (ringBytes asked timeout volume) refl ready refl held
+          (ring-judged u _ asked mask timeout volume (few ready) legal passes) (rings-as mask timeout volume u);
+      stops = λ u room high low volume ready held quiet.
           let key = ringKey (u .identity .bytes) in
-          signed-as u room 0x05 12 key a (omega arith) ready refl held
-          (rw (or-right (skips (u .protection)) (own-tag key (lastNonce u) 0x05 12 a), legal, mask));
-      skipRings = λ u room mark a ready held skip eight n legal mask.
-          accepted-as 0x05 12 mark a eight (omega arith) ready refl held (rw (skip, legal, mask));
-      skipStops = λ u room mark a ready held skip eight n legal mask.
-          accepted-as 0x05 12 mark a eight (omega arith) ready refl held (rw (skip, legal, mask));
+          let passes = or-right (skips (u .protection)) (own-tag key (u .nonce .bytes) 0x05 12 (0 ∷ high ∷ low ∷ volume ∷ [])) in
+          signed-as u room 0x05 12 key (0 ∷ high ∷ low ∷ volume ∷ []) refl ready refl held
+          (stop-judged u _ high low volume (few ready) quiet passes) (stopped u);
+      skipRings = λ u room asked mask timeout volume tag ready held skip eight legal.
+          let a = ringBytes asked timeout volume in
+          let judgement = ring-judged u tag asked mask timeout volume (few ready) legal (rw skip) in
+          serves (accepted-as 0x05 12 tag a eight refl ready refl held judgement) (rings-as mask timeout volume u);
+      skipStops = λ u room high low volume tag ready held skip eight quiet.
+          let a : List ℕ = 0 ∷ high ∷ low ∷ volume ∷ [] in
+          let judgement = stop-judged u tag high low volume (few ready) quiet (rw skip) in
+          serves (accepted-as 0x05 12 tag a eight refl ready refl held judgement) (stopped u);
       soundRead = λ u room ready held.
           let key = ringKey (u .identity .bytes) in
-          signed-as u room 0x06 8 key [] refl ready refl held (rw (own-tag key (lastNonce u) 0x06 8 []));
+          signed-as u room 0x06 8 key [] refl ready refl held
+          (rw (own-tag key (u .nonce .bytes) 0x06 8 [], sound-state u (lines u (ready .formed)))) (only-spends u);
       protects = λ u room ready held.
           let key = protectionKey (u .identity .bytes) in
-          signed-as u room 0x07 8 key [] refl ready refl held (rw (own-tag key (lastNonce u) 0x07 8 []));
+          signed-as u room 0x07 8 key [] refl ready refl held (rw (own-tag key (u .nonce .bytes) 0x07 8 [])) (protects-as (Protection.On false) u);
       protectsFlagged = λ u room flag ready held low.
           let key = protectionKey (u .identity .bytes) in
           signed-as u room 0x07 9 key (flag ∷ []) refl ready refl held
-          (rw (own-tag key (lastNonce u) 0x07 9 (flag ∷ []), le-leb flag 1 (omega arith)));
+          (rw (own-tag key (u .nonce .bytes) 0x07 9 (flag ∷ []), le-leb flag 1 (omega arith))) (protects-as (Protection.On (eqb flag 1)) u);
       unprotects = λ u room ready held.
           let key = protectionKey (u .identity .bytes) in
-          let proof = keyProof (u .identity .bytes) (lastNonce u) in
-          let sized = ap (λ (n : ℕ). 8 + n) (length-keyProof (u .identity .bytes) (lastNonce u)) in
+          let proof = keyProof (u .identity .bytes) (u .nonce .bytes) in
+          let sized = ap (λ (n : ℕ). 8 + n) (length-keyProof (u .identity .bytes) (u .nonce .bytes)) in
           signed-as u room 0x08 16 key proof sized ready refl held
-          (rw (own-tag key (lastNonce u) 0x08 16 proof, same-refl proof));
+          (rw (own-tag key (u .nonce .bytes) 0x08 16 proof, same-refl proof)) (protects-as Protection.Off u);
     }

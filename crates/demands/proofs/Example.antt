@@ -4,7 +4,7 @@ use Prim.Native.Nat.{ℕ, zero, suc, _+_, _<_}
 use mathlib.Core.Path.{_≡_, refl, sym, ap, _∙_}
 use mathlib.Core.Bool.{true}
 use mathlib.Core.List.{List, [], _∷_, _++_}
-use mathlib.Core.Option.{some}
+use mathlib.Core.Logic.{inl}
 use native.Mathlib.Omega.{arith}
 use lib.ListN.{length, getD, drop, replicate}
 use lib.Seq.{take-all, take-at, drop-at}
@@ -13,16 +13,15 @@ use Rattle.laws.specs.Answer.{gives}
 use Rattle.laws.proofs.Same.{differ-same, same-refl}
 use Rattle.primitives.specs.Standards.{HMAC}
 use Rattle.primitives.proofs.Laws.{HMAC-byte}
-use Rattle.sizes.specs.Sizes.{tagSize, answerRoom, fullConsent}
-use Rattle.wire.specs.Signing.{version, requestTag, recoveryKey}
+use Rattle.wire.specs.Signing.{requestTag}
 use Rattle.wire.specs.Shape.{parsed}
-use Rattle.wire.specs.KeyBlocks.{decryptedKey, encryptedKey}
+use Rattle.wire.specs.KeyBlocks.{decryptedKey}
 use Rattle.unit.specs.declared.TagUnit.{TagUnit}
 use Rattle.unit.specs.declared.Settings.{Settings}
 use Rattle.unit.specs.declared.Owner.{Owner}
 use Rattle.tables.specs.Rows.{rows, among, placeOf}
 use Rattle.unit.specs.declared.Accounts.{Accounts}
-use Rattle.unit.specs.WellFormed.{settingsLegal, wellFormed, heldKeys, ownerKey}
+use Rattle.unit.specs.WellFormed.{settingsLegal, wellFormed, heldKeys}
 use Rattle.unit.specs.Change.{fresh, noAccounts, withAccounts, withNewKey, withNonce, withOwner, withConsent, withIdentifier, noIdentifier, silenced, spent}
 use Rattle.unit.specs.Outcome.{Outcome, giving, formed}
 use Rattle.unit.proofs.Kept.{fresh-formed, issued-kept, spent-kept, accounts-kept, owner-kept, identity-kept, silenced-kept, unlent-kept, consent-kept}
@@ -30,27 +29,31 @@ use Rattle.provisioning.specs.Provisioning.{rekeyed, ownedBy}
 use Rattle.tag.specs.Own.{keeping, pressed}
 use Rattle.tag.specs.Calls.{read, button, accountKey, own, guarded, call, Act, calls, act}
 use Rattle.demands.specs.History.{step, after, writes, Bytes, AllOfBytes}
-use Rattle.demands.specs.Accepted.{built, Open, First, answer, keyAt}
+use Rattle.demands.specs.Spelled.{tagFrom, requestFrom, keyAtPlace, OwnedWith}
+use Rattle.demands.specs.Accepted.{Serves, Open, First, answer, recoveryKeyOf, keyBlocks}
 use Rattle.demands.specs.Recovery.{Rekeys, rekeys, SetBy}
-use Rattle.demands.specs.Example.{sent, Given, provisioning, recovering, Shown, Example}
+use Rattle.demands.specs.Example.{Given, provisioning, recovering, Shown, Example}
 use Rattle.demands.proofs.OfBytes.{bytes-take, bytes-cons, bytes-append}
 use Rattle.demands.proofs.Histories.{after-append}
 use Rattle.demands.proofs.Judging.{opened, length-requestTag}
-use Rattle.demands.proofs.Accepted.{reads, accepted}
+use Rattle.demands.proofs.Accepted.{reads, serves-state, serves-key, accepted}
 use Rattle.demands.proofs.Beside.{kind}
 use Rattle.demands.proofs.Noncing.{issued}
 use Rattle.demands.proofs.Recovery.{recovery}
 
 -- A write as sent is of bytes
-sent-bytes : (id : ℕ) (by nonce additional : List ℕ) → id < 256 → length additional < 128 → Bytes additional → Bytes (sent id by nonce additional)
-unfolding sent requestTag
+sent-bytes : (id : ℕ) (by nonce additional : List ℕ) → id < 256 → length additional < 128 → Bytes additional → Bytes (requestFrom id by nonce additional)
 sent-bytes id by nonce additional low short b =
-    let size = tagSize + length additional in
-    let text : List ℕ = version ∷ nonce ++ (id ∷ size ∷ additional) in
-    let mark = requestTag by nonce id size additional in
+    let size = 8 + length additional in
+    let text : List ℕ = 0x01 ∷ nonce ++ (id ∷ size ∷ additional) in
+    let mark = tagFrom by nonce id size additional in
     bytes-cons id (size ∷ mark ++ additional) low
     (bytes-cons size (mark ++ additional) (omega arith)
     (bytes-append mark additional (bytes-take 8 (HMAC by text) (HMAC-byte by text)) b))
+
+tag-eight : (by nonce : List ℕ) (id size : ℕ) (additional : List ℕ) → length (tagFrom by nonce id size additional) ≡ 8
+unfolding requestTag
+tag-eight by nonce id size additional = length-requestTag by nonce id size additional
 
 none : Bytes []
 none i = omega arith
@@ -90,19 +93,19 @@ module _ (s : Settings) (key C n₁ n₂ n₃ : List ℕ) (g : Given s key C n�
   provisioned = rekeyed (decryptedKey key C) (spent second)
 
   abbrev consented : TagUnit
-  consented = withConsent fullConsent provisioned
+  consented = withConsent 600 provisioned
 
   abbrev third : TagUnit
   third = withNonce (issued n₃) consented
 
   abbrev start : List Act
-  start = calls (accountKey key) 0 ∷ calls (read n₁) answerRoom ∷ writes (sent 0x01 key n₁ []) answerRoom ∷ calls (read n₂) answerRoom ∷ []
+  start = calls (accountKey key) 0 ∷ calls (read n₁) 42 ∷ writes (requestFrom 0x01 key n₁ []) 42 ∷ calls (read n₂) 42 ∷ []
 
   abbrev last : List Act
-  last = calls button answerRoom ∷ calls (read n₃) answerRoom ∷ []
+  last = calls button 42 ∷ calls (read n₃) 42 ∷ []
 
   abbrev end : List Act
-  end = writes (sent 0x02 key n₂ C) answerRoom ∷ last
+  end = writes (requestFrom 0x02 key n₂ C) 42 ∷ last
 
   -- the one key held
   held-key : heldKeys (withNewKey key noAccounts) ≡ key ∷ []
@@ -128,17 +131,18 @@ module _ (s : Settings) (key C n₁ n₂ n₃ : List ℕ) (g : Given s key C n�
   unfolding placeOf
   owner-first = rw (held-key, same-refl key)
 
-  owner-key : ownerKey (withOwner (Owner.Place 0) (withNewKey key noAccounts)) ≡ some key
-  unfolding ownerKey heldKeys
-  owner-key = ap (λ (l : List (List ℕ)). some (getD l 0 [])) held-key
+  -- the key stands at place 0, and is the owner's
+  at-first : keyAtPlace keyed 0 ≡ key
+  at-first = take-at key (drop (0 + length key) (replicate 80 0)) 16 (g .keyLong)
 
-  owns-it : step (writes (sent 0x01 key n₁ []) answerRoom) first .unit ≡ owned
-  unfolding sent built
+  owner-key : OwnedWith second key
+  owner-key = (0, refl, at-first)
+
+  owns-it : step (writes (requestFrom 0x01 key n₁ []) 42) first .unit ≡ owned
   owns-it =
-      let at-first : keyAt first 0 ≡ key = ap (λ (l : List (List ℕ)). getD l 0 []) held-key in
-      let ready : Open first answerRoom = record { formed = first-formed; live = refl; fits = omega arith } in
-      let only : First first 0x01 0 = (omega (arith, ap length held-key), λ i h. absurd (omega arith)) in
-      ap (λ (o : Outcome). o .unit) (rw at-first at (accepted .stateRead first answerRoom 0 ready only))
+      let ready : Open first 42 = record { formed = first-formed; live = refl; fits = omega arith } in
+      let only : First first 0x01 0 = (omega arith, λ i h. absurd (omega arith)) in
+      rw at-first at (serves-state first 42 0 {Left = λ (v : TagUnit). v ≡ withAccounts (ownedBy (keyAtPlace first 0) (first .accounts)) (spent first)} ready only refl .left)
       ∙ ap (λ (a : Accounts). withAccounts a (spent first)) owner-first
 
   second-formed : wellFormed second ≡ true
@@ -150,43 +154,44 @@ module _ (s : Settings) (key C n₁ n₂ n₃ : List ℕ) (g : Given s key C n�
       let unlent = unlent-kept (silenced (spent second)) quiet in
       identity-kept (withIdentifier noIdentifier (silenced (spent second))) unlent (decryptedKey key C) refl
 
-  sets-it : step (writes (sent 0x02 key n₂ C) answerRoom) second ≡ giving (answer key second 0x02 []) provisioned
-  unfolding sent built
+  sets-it : Serves (writes (requestFrom 0x02 key n₂ C) 42) second (answer second 0x02 key []) (λ (v : TagUnit). v ≡ provisioned)
   sets-it =
-      accepted .keySet second answerRoom key C (record { formed = second-formed; live = refl; fits = omega arith }) owner-key refl (g .encryptedLong)
+      serves-key second 42 key C (record { formed = second-formed; live = refl; fits = omega arith }) owner-key refl (g .encryptedLong) refl
 
-  presses : step (calls button answerRoom) provisioned ≡ giving [] consented
+  presses : step (calls button 42) provisioned ≡ giving [] consented
   unfolding act call guarded own pressed
-  presses = opened provisioned answerRoom (pressed (provisioned .sound) provisioned) provisioned-formed (omega arith)
+  presses = opened provisioned 42 (pressed (provisioned .sound) provisioned) provisioned-formed (omega arith)
 
   consented-formed : wellFormed consented ≡ true
-  consented-formed = consent-kept provisioned provisioned-formed fullConsent (omega arith)
+  consented-formed = consent-kept provisioned provisioned-formed 600 (omega arith)
 
   -- The history as a whole
   before : after start (fresh s) ≡ second
   before =
       runs-after
       (next (ap unit-of adds)
-      (next (ap unit-of (reads keyed answerRoom n₁ keyed-formed (omega arith) (g .long₁) refl))
+      (next (ap unit-of (reads keyed 42 n₁ keyed-formed (omega arith) (g .long₁) refl))
       (next owns-it
-      (next (ap unit-of (reads owned answerRoom n₂ owned-formed (omega arith) (g .long₂) (differ-same n₁ n₂ (g .second)))) done))))
+      (next (ap unit-of (reads owned 42 n₂ owned-formed (omega arith) (g .long₂) (differ-same n₁ n₂ (g .second)))) done))))
 
   all : after (provisioning key C n₁ n₂ n₃) (fresh s) ≡ third
   all =
       after-append start end (fresh s)
       ∙ ap (after end) before
       ∙ runs-after
-      (next (ap unit-of sets-it)
+      (next (sets-it .left)
       (next (ap unit-of presses)
-      (next (ap unit-of (reads consented answerRoom n₃ consented-formed (omega arith) (g .long₃) (differ-same n₂ n₃ (g .third)))) done)))
+      (next (ap unit-of (reads consented 42 n₃ consented-formed (omega arith) (g .long₃) (differ-same n₂ n₃ (g .third)))) done)))
 
-  recovers-it : step (writes (recovering key C n₃) answerRoom) third .result
-      ≡ gives (answer (recoveryKey (decryptedKey key C)) third 0x04 (encryptedKey key (decryptedKey key C)))
-  unfolding sent built
+  abbrev said : List ℕ
+  said = answer third 0x04 (recoveryKeyOf third) (keyBlocks key (third .identity .bytes))
+
+  recovers-it : step (writes (recovering key C n₃) 42) third .result ≡ gives said
+  unfolding decryptedKey
   recovers-it =
-      ap (λ (o : Outcome). o .result)
-      (accepted .keyRecovered third answerRoom key
-      (record { formed = issued-kept consented consented-formed true n₃; live = refl; fits = omega arith }) owner-key refl refl)
+      accepted .keyRecovered third 42 key
+      (record { formed = issued-kept consented consented-formed true n₃; live = refl; fits = omega arith }) (0, refl, at-first) refl
+      (inl (omega arith)) .answered
 
   all-bytes : AllOfBytes (provisioning key C n₁ n₂ n₃)
   all-bytes =
@@ -196,33 +201,32 @@ module _ (s : Settings) (key C n₁ n₂ n₃ : List ℕ) (g : Given s key C n�
       (g .keyBytes, (g .bytes₁, (owning, (g .bytes₂, (setting, (none, (g .bytes₃, tt)))))))
 
   set-by : SetBy (fresh s) (provisioning key C n₁ n₂ n₃) C
-  unfolding parsed sent
+  unfolding parsed
   set-by =
       let long = g .encryptedLong in
-      let mark = requestTag key n₂ 0x02 (tagSize + length C) C in
+      let mark = tagFrom key n₂ 0x02 (8 + length C) C in
       record {
         before = start;
-        w = record { bytes = sent 0x02 key n₂ C };
-        room = answerRoom;
+        w = record { bytes = requestFrom 0x02 key n₂ C };
+        room = 42;
         later = last;
         split = refl;
         sets = refl;
-        accepted = (answer key second 0x02 [], rw before (ap (λ (o : Outcome). o .result) sets-it));
-        began = sym (rw (drop-at mark C 8 (length-requestTag key n₂ 0x02 (tagSize + length C) C)) (take-all 32 C (omega arith)));
+        accepted = (answer second 0x02 key [], rw before (sets-it .answered));
+        began = sym (rw (drop-at mark C 8 (tag-eight key n₂ 0x02 (8 + length C) C)) (take-all 32 C (omega arith)));
         kept = (λ r. omega (arith, rekeys-kind r), (λ r. omega (arith, rekeys-kind r), tt));
       }
 
   shown : Shown s key C n₁ n₂ n₃
-  unfolding parsed sent
+  unfolding parsed
   shown =
-      let said = answer (recoveryKey (decryptedKey key C)) third 0x04 (encryptedKey key (decryptedKey key C)) in
-      let result : step (writes (recovering key C n₃) answerRoom) (after (provisioning key C n₁ n₂ n₃) (fresh s)) .result ≡ gives said =
+      let result : step (writes (recovering key C n₃) 42) (after (provisioning key C n₁ n₂ n₃) (fresh s)) .result ≡ gives said =
       rw all recovers-it in
       record {
         bytes = all-bytes;
         setBy = set-by;
         recovers = refl;
-        accepted = (said, result, recovery s (provisioning key C n₁ n₂ n₃) C (record { bytes = recovering key C n₃ }) answerRoom said all-bytes set-by refl result);
+        accepted = (said, result, recovery s (provisioning key C n₁ n₂ n₃) C (record { bytes = recovering key C n₃ }) 42 said all-bytes set-by refl result);
       }
 
 replicate-bytes : (n x : ℕ) → x < 256 → Bytes (replicate n x)

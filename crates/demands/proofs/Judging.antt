@@ -19,11 +19,12 @@ use Rattle.wire.specs.Shape.{Request, parsed, sizeLegal, shapeLegal}
 use Rattle.unit.specs.declared.TagUnit.{TagUnit}
 use Rattle.unit.specs.WellFormed.{wellFormed}
 use Rattle.unit.specs.Change.{spent}
-use Rattle.unit.specs.Outcome.{Outcome, formed, answering}
+use Rattle.unit.specs.Outcome.{Outcome, giving, formed, answering}
 use Rattle.authentication.specs.Judgement.{accepts, tagged}
 use Rattle.requests.specs.Write.{byId, needsKey, judged, written}
 use Rattle.tag.specs.Calls.{own, guarded, call, act}
-use Rattle.demands.specs.Accepted.{Open, Serves}
+use Rattle.demands.specs.History.{step, writes}
+use Rattle.demands.specs.Accepted.{Open}
 
 -- tags and proofs have eight bytes
 eight-first : (digest : List ℕ) → length digest ≡ 32 → length (take 8 digest) ≡ 8
@@ -72,7 +73,7 @@ opened u room o right fits = rw (le-ltb room answerRoom fits, right)
 pub accepted-as : {u : TagUnit} {room : ℕ} {after : TagUnit} {answer : List ℕ} (id size : ℕ) (mark additional : List ℕ) → length mark ≡ 8
     → tagSize + length additional ≡ size → Open u room → sizeLegal id size ≡ true → (ltb id needsKey || u .identity .held) ≡ true
     → byId (spent u) (requestOf id size mark additional) ≡ accepts after answer
-    → Serves (bytesOf id size mark additional) room u answer after
+    → step (writes (bytesOf id size mark additional) room) u ≡ giving answer after
 unfolding act call guarded own written judged
 accepted-as {u} {room} id size mark additional eight sized ready legal there accepted =
     opened u room (written u (bytesOf id size mark additional)) (ready .formed) (ready .fits)

@@ -13,6 +13,7 @@ pub mod Passing
 pub mod Course
 pub mod Time
 pub mod Judging
+pub mod Spelling
 pub mod Accepted
 pub mod Ruled
 pub mod Beside

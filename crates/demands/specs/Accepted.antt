@@ -1,116 +1,254 @@
--- Demand 2, that valid writes and reads are served: for each of the nine IDs, the rightly built write on a unit that permits it succeeds
--- with the stated answer and the stated unit, and so does a read. Without this a tag that always refuses would keep every promise.
-use Prim.Native.Nat.{ℕ, _+_, _≤_, _<_}
+-- Demand 2: "Every answer, notification, frame and later state is what the published v1.3 rules and our house choices define, for every
+-- write, read .." Here for the read and for each of the nine IDs: rightly built, on a unit that permits it, it is served with these bytes and
+-- leaves this unit, in literal numbers over SHA256, HMAC and AES128 alone. Without this a tag that always refuses would keep every promise.
+use Prim.Native.Nat.{ℕ, _+_, _*_, _-_, _/_, _%_, _≤_, _<_}
 use mathlib.Core.Path.{_≡_}
-use mathlib.Core.Bool.{true, false, _||_}
+use mathlib.Core.Bool.{true, false, cond, _&&_}
 use mathlib.Core.List.{List, [], _∷_, _++_}
-use mathlib.Core.Option.{some}
-use lib.Dec.{eqb, ltb}
-use lib.ListN.{length, getD}
-use Rattle.primitives.specs.Standards.{AES128}
-use Rattle.sizes.specs.Sizes.{tagSize, answerRoom, nonceSize}
-use Rattle.wire.specs.Signing.{version, requestTag, keyProof, signed, recoveryKey, ringKey, protectionKey, ringNotice, stopNotice, started, byRequest}
-use Rattle.wire.specs.KeyBlocks.{decryptedKey, encryptedKey}
+use mathlib.Core.Logic.{_⊎_}
+use lib.Dec.{eqb}
+use lib.IntN.{ℤ, pos, negsuc}
+use lib.ListN.{length, take, drop, getD, replicate}
+use Rattle.laws.specs.Answer.{gives}
+use Rattle.primitives.specs.Standards.{AES128, InvAES128}
 use Rattle.unit.specs.declared.TagUnit.{TagUnit}
+use Rattle.unit.specs.declared.Owner.{Owner}
 use Rattle.unit.specs.declared.Sound.{Sound}
 use Rattle.unit.specs.declared.Protection.{Protection}
-use Rattle.unit.specs.WellFormed.{wellFormed, heldKeys, ownerKey}
-use Rattle.unit.specs.Standing.{shownIdentifier}
-use Rattle.unit.specs.Change.{spent, silenced, withNonce, withAccounts, withSound, withProtection}
-use Rattle.unit.specs.Outcome.{giving}
-use Rattle.authentication.specs.Judgement.{lastNonce}
-use Rattle.provisioning.specs.Provisioning.{parameters, ownedBy, isKey, stateBits, rekeyed, cleared}
-use Rattle.ringing.specs.Ringing.{soundState, skips, ringLegal, ringMask, heldVolume, askedTimeout}
-use Rattle.tag.specs.Calls.{read, calls}
+use Rattle.unit.specs.WellFormed.{wellFormed}
+use Rattle.tag.specs.Calls.{read, Act, calls}
 use Rattle.demands.specs.History.{step, writes}
+use Rattle.demands.specs.Spelled.{keyFrom, proofFrom, tagFrom, requestFrom, answerFrom, keyAtPlace, OwnedWith, AllBut, settings, clock, nonce, accounts, identity, sound, ringNonce, protection, consent, pairing, identifier, NonceSpent, OnlySpends}
 
--- the write of an ID, signed by a key with the unit's nonce
-unfoldable pub built : ℕ → List ℕ → TagUnit → List ℕ → List ℕ
-built id key u additional =
-    id ∷ (tagSize + length additional) ∷ requestTag key (lastNonce u) id (tagSize + length additional) additional ++ additional
+-- an act is served: it gives this answer, and the unit after it is as said
+pub record Serves (a : Act) (u : TagUnit) (answer : List ℕ) (Left : TagUnit → Type 0) : Type 0 where
+  pub answered : step a u .result ≡ gives answer
+  pub left : Left (step a u .unit)
 
 -- a unit that takes writes: well formed, with a live nonce; and room for the answer
 pub record Open (u : TagUnit) (room : ℕ) : Type 0 where
   pub formed : wellFormed u ≡ true
   pub live : u .nonce .live ≡ true
-  pub fits : answerRoom ≤ room
+  pub fits : 42 ≤ room
 
--- the account key at a place
-abbrev pub keyAt : TagUnit → ℕ → List ℕ
-keyAt u p = getD (heldKeys (u .accounts)) p []
+-- What a phone sends and is answered with the unit's nonce; and by which keys: "Recovery, ring and protection keys .. 0x01, 0x02, 0x03
+-- respectively"
+module _ (u : TagUnit) where
+  abbrev pub sent : ℕ → List ℕ → List ℕ → List ℕ
+  sent id key additional = requestFrom id key (u .nonce .bytes) additional
 
--- the key at place p, and no earlier one, makes this tag for this write
+  abbrev pub answer : ℕ → List ℕ → List ℕ → List ℕ
+  answer id key «data» = answerFrom id key (u .nonce .bytes) «data»
+
+  abbrev pub recoveryKeyOf : List ℕ
+  recoveryKeyOf = keyFrom 0x01 (u .identity .bytes)
+
+  abbrev pub ringKeyOf : List ℕ
+  ringKeyOf = keyFrom 0x02 (u .identity .bytes)
+
+  abbrev pub protectionKeyOf : List ℕ
+  protectionKeyOf = keyFrom 0x03 (u .identity .bytes)
+
+  abbrev pub keyProofOf : List ℕ
+  keyProofOf = proofFrom (u .identity .bytes) (u .nonce .bytes)
+
+-- "the first held key whose tag matches, in order of arrival": the key at place p, and no earlier one, makes this tag for this write
 abbrev pub First : TagUnit → ℕ → ℕ → Type 0
 First u id p =
-    (p < length (heldKeys (u .accounts)))
-    × ((i : ℕ) → i < p → requestTag (keyAt u i) (lastNonce u) id tagSize [] ≡ requestTag (keyAt u p) (lastNonce u) id tagSize [] → ⊥)
+    (p < u .accounts .count)
+    × ((i : ℕ) → i < p → tagFrom (keyAtPlace u i) (u .nonce .bytes) id 8 [] ≡ tagFrom (keyAtPlace u p) (u .nonce .bytes) id 8 [] → ⊥)
 
-abbrev pub Serves : List ℕ → ℕ → TagUnit → List ℕ → TagUnit → Type 0
-Serves w room u answer unit = step (writes w room) u ≡ giving answer unit
+-- "power as one signed byte, two's complement"
+abbrev pub signedByte : ℤ → ℕ
+signedByte (pos n) = n
+signedByte (negsuc n) = 256 - (n + 1)
 
--- every nonce of the answers is the unit's
-abbrev pub answer : List ℕ → TagUnit → ℕ → List ℕ → List ℕ
-answer key u id «data» = signed key (lastNonce u) id «data»
+-- "power as one signed byte, two's complement; seconds; curve 0x00; components; volume capability; 8 zeros"
+abbrev pub parameterBytes : TagUnit → List ℕ
+parameterBytes u =
+    signedByte (u .settings .power)
+    ∷ (u .clock .seconds / 16777216 % 256)
+    ∷ (u .clock .seconds / 65536 % 256)
+    ∷ (u .clock .seconds / 256 % 256)
+    ∷ (u .clock .seconds % 256)
+    ∷ 0x00
+    ∷ u .settings .components
+    ∷ u .settings .selectable
+    ∷ 0
+    ∷ 0
+    ∷ 0
+    ∷ 0
+    ∷ 0
+    ∷ 0
+    ∷ 0
+    ∷ 0
+    ∷ []
+
+-- "bit 0x01 identity key held, bit 0x02 the key used is owner": the key at place p. "0x01 with no owner makes that key the owner (house),
+-- and its answer already shows it as owner"
+abbrev pub ownerBit : Owner → ℕ → ℕ
+ownerBit Owner.Nobody p = 0x02
+ownerBit (Owner.Place q) p = cond (eqb q p) 0x02 0x00
+
+abbrev pub ownerThen : Owner → ℕ → Owner
+ownerThen Owner.Nobody p = Owner.Place p
+ownerThen (Owner.Place q) p = Owner.Place q
+
+-- "then the identifier if one stands for the current window, else nothing"; "The window is the seconds with the low 10 bits cleared"
+abbrev pub windowOf : ℕ → ℕ
+windowOf seconds = seconds / 1024 * 1024
+
+abbrev pub standing : TagUnit → List ℕ
+standing u = cond (u .identifier .held && eqb (u .identifier .window) (windowOf (u .clock .seconds))) (u .identifier .id) []
+
+pub record OwnerKnown (p : ℕ) (u v : TagUnit) : Type 0 where
+  pub nonceSpent : NonceSpent u v
+  pub count : v .accounts .count ≡ u .accounts .count
+  pub keys : v .accounts .keys ≡ u .accounts .keys
+  pub owner : v .accounts .owner ≡ ownerThen (u .accounts .owner) p
+  pub rest : AllBut (nonce ∷ accounts ∷ []) u v
+
+-- silent, with no nonce of a ring; and no identifier lent: "room for absent things .. zero"
+abbrev pub Silent : TagUnit → Type 0
+Silent v = (v .sound ≡ Sound.Silent) × (v .«ring_nonce» ≡ replicate 8 0)
+
+abbrev pub Unlent : TagUnit → Type 0
+Unlent v = v .identifier ≡ record { held = false; r = replicate 20 0; id = replicate 20 0; window = 0 }
+
+-- "The first 32 data bytes, two blocks decrypted with the owner key, become the identity key at once (house). Sound ends without notice and
+-- the identifier is dropped; protection stays (house)"
+pub record Rekeyed (key C : List ℕ) (u v : TagUnit) : Type 0 where
+  pub nonceSpent : NonceSpent u v
+  pub identityIs : v .identity ≡ record { held = true; bytes = InvAES128 key (take 16 C) ++ InvAES128 key (take 16 (drop 16 C)) }
+  pub silent : Silent v
+  pub unlent : Unlent v
+  pub rest : AllBut (nonce ∷ identity ∷ sound ∷ ringNonce ∷ identifier ∷ []) u v
+
+-- "The unit becomes fresh, keeping settings, clock, last nonce (spent), battery and pairing (house)"; "Fresh: no keys, nonce, sound,
+-- protection, consent, pairing or identifier"
+pub record Cleared (u v : TagUnit) : Type 0 where
+  pub nonceSpent : NonceSpent u v
+  pub keyless : v .accounts ≡ record { count = 0; owner = Owner.Nobody; keys = replicate 80 0 }
+  pub unset : v .identity ≡ record { held = false; bytes = replicate 32 0 }
+  pub silent : Silent v
+  pub unprotected : v .protection ≡ Protection.Off
+  pub unconsented : v .consent ≡ 0
+  pub unlent : Unlent v
+  pub rest : AllBut (nonce ∷ accounts ∷ identity ∷ sound ∷ ringNonce ∷ protection ∷ consent ∷ identifier ∷ []) u v
+
+-- "Data: the identity key, two blocks encrypted with the owner key"
+abbrev pub keyBlocks : List ℕ → List ℕ → List ℕ
+keyBlocks key secret = AES128 key (take 16 secret) ++ AES128 key (take 16 (drop 16 secret))
+
+-- "A ring notice has ID 0x05, the ring key, data: status (0 started, 2 timeout, 3 button, 4 request), mask, tenths left; zeros once stopped"
+module _ (u : TagUnit) (with : List ℕ) where
+  abbrev pub startNotice : ℕ → ℕ → ℕ → List ℕ
+  startNotice status mask left = answerFrom 0x05 (ringKeyOf u) with (status ∷ mask ∷ (left / 256) ∷ (left % 256) ∷ [])
+
+  abbrev pub stopNotice : ℕ → List ℕ
+  stopNotice status = answerFrom 0x05 (ringKeyOf u) with (status ∷ 0 ∷ 0 ∷ 0 ∷ [])
+
+-- "The ringable mask, 0x00, 0x01, 0x03 or 0x07, has as many ones as the component number"
+abbrev pub ringable : ℕ → ℕ
+ringable components = getD (0x00 ∷ 0x01 ∷ 0x03 ∷ 0x07 ∷ []) components 0
+
+-- the mask that a requested one means: "Mask 0xFF means that whole mask", but not on a unit with no component; any other means itself, if
+-- it has no bit outside the ringable mask, which is all ones: if it is not greater
+pub data Means (components : ℕ) : ℕ → ℕ → Type 0 where
+  whole : 0 < components → Means components 0xFF (ringable components)
+  itself : {mask : ℕ} → mask ≤ ringable components → Means components mask mask
+
+-- "0x81 if, after that, the mask has a bit outside it, if 0xFF meets a unit with none, if volume exceeds 3, or if mask isn't 0 and timeout
+-- isn't 1 to 6,000"
+pub record RingLegal (components asked mask timeout volume : ℕ) : Type 0 where
+  pub means : Means components asked mask
+  pub some : 0 < mask
+  pub least : 1 ≤ timeout
+  pub most : timeout ≤ 6000
+  pub quiet : volume ≤ 3
+
+-- "0x05 data: mask, timeout (2 bytes), volume"
+abbrev pub ringBytes : ℕ → ℕ → ℕ → List ℕ
+ringBytes asked timeout volume = asked ∷ (timeout / 256) ∷ (timeout % 256) ∷ volume ∷ []
+
+-- "ringing with a mask, a volume, tenths left .. and the nonce of the accepted ring"; "Volume is held as 0 where not selectable"
+pub record Rings (mask timeout volume : ℕ) (u v : TagUnit) : Type 0 where
+  pub nonceSpent : NonceSpent u v
+  pub soundIs : v .sound ≡ Sound.Ringing mask (cond (eqb (u .settings .selectable) 0) 0 volume) timeout
+  pub nonceKept : v .«ring_nonce» ≡ u .nonce .bytes
+  pub rest : AllBut (nonce ∷ sound ∷ ringNonce ∷ []) u v
+
+pub record Stopped (u v : TagUnit) : Type 0 where
+  pub nonceSpent : NonceSpent u v
+  pub silent : Silent v
+  pub rest : AllBut (nonce ∷ sound ∷ ringNonce ∷ []) u v
+
+-- "0x06 data: mask and tenths left; zeros when silent"
+abbrev pub soundBytes : Sound → List ℕ
+soundBytes Sound.Silent = 0 ∷ 0 ∷ 0 ∷ []
+soundBytes (Sound.Ringing mask volume left) = mask ∷ (left / 256) ∷ (left % 256) ∷ []
+
+pub record Protects (p : Protection) (u v : TagUnit) : Type 0 where
+  pub nonceSpent : NonceSpent u v
+  pub protectionIs : v .protection ≡ p
+  pub rest : AllBut (nonce ∷ protection ∷ []) u v
+
+pub record Issued (lent : List ℕ) (u v : TagUnit) : Type 0 where
+  pub nonceIs : v .nonce ≡ record { held = true; live = true; bytes = lent }
+  pub rest : AllBut (nonce ∷ []) u v
 
 pub record Accepted : Type 0 where
-  -- a nonce that is not the last issued; it replaces any other
-  pub nonceRead : (u : TagUnit) (room : ℕ) (nonce : List ℕ) → wellFormed u ≡ true → answerRoom ≤ room → length nonce ≡ nonceSize
-      → (u .nonce .held ≡ true → u .nonce .bytes ≡ nonce → ⊥)
-      → step (calls (read nonce) room) u ≡ giving (version ∷ nonce) (withNonce (record { held = true; live = true; bytes = nonce }) u)
+  -- "Read gives 0x01 and the lent nonce (9 bytes) and makes that nonce live, replacing any other"; 3 for one "equal to the last issued"
+  pub nonceRead : (u : TagUnit) (room : ℕ) (lent : List ℕ) → wellFormed u ≡ true → 42 ≤ room → length lent ≡ 8
+      → (u .nonce .held ≡ true → u .nonce .bytes ≡ lent → ⊥)
+      → Serves (calls (read lent) room) u (0x01 ∷ lent) (Issued lent u)
+  -- "0x00 data, encrypted by the account key used"
   pub parametersRead : (u : TagUnit) (room p : ℕ) → Open u room → First u 0x00 p
-      → Serves (built 0x00 (keyAt u p) u []) room u (answer (keyAt u p) u 0x00 (AES128 (keyAt u p) (parameters (u .settings) (u .clock .seconds)))) (spent u)
+      → Serves (writes (sent u 0x00 (keyAtPlace u p) []) room) u
+      (answer u 0x00 (keyAtPlace u p) (AES128 (keyAtPlace u p) (parameterBytes u)))
+      (OnlySpends u)
+  -- "0x01 data: bit 0x01 identity key held, bit 0x02 the key used is owner; then the identifier"
   pub stateRead : (u : TagUnit) (room p : ℕ) → Open u room → First u 0x01 p
-      → Serves (built 0x01 (keyAt u p) u []) room u
-      (answer (keyAt u p) u 0x01 (stateBits (u .identity .held) (isKey (ownerKey (ownedBy (keyAt u p) (u .accounts))) (keyAt u p)) ∷ shownIdentifier u))
-      (withAccounts (ownedBy (keyAt u p) (u .accounts)) (spent u))
-  -- a first key, of 32 encrypted bytes
-  pub keySet : (u : TagUnit) (room : ℕ) (key : List ℕ) (C : List ℕ) → Open u room → ownerKey (u .accounts) ≡ some key → u .identity .held ≡ false → length C ≡ 32
-      → Serves (built 0x02 key u C) room u (answer key u 0x02 []) (rekeyed (decryptedKey key C) (spent u))
-  -- another key, with a proof of the one held
-  pub keyReplaced : (u : TagUnit) (room : ℕ) (key : List ℕ) (C : List ℕ) → Open u room → ownerKey (u .accounts) ≡ some key → u .identity .held ≡ true → length C ≡ 32
-      → Serves (built 0x02 key u (C ++ keyProof (u .identity .bytes) (lastNonce u))) room u (answer key u 0x02 [])
-      (rekeyed (decryptedKey key (C ++ keyProof (u .identity .bytes) (lastNonce u))) (spent u))
-  pub keyCleared : (u : TagUnit) (room : ℕ) (key : List ℕ) → Open u room → ownerKey (u .accounts) ≡ some key → u .identity .held ≡ true
-      → Serves (built 0x03 key u (keyProof (u .identity .bytes) (lastNonce u))) room u (answer key u 0x03 []) (cleared (spent u))
-  pub keyRecovered : (u : TagUnit) (room : ℕ) (key : List ℕ) → Open u room → ownerKey (u .accounts) ≡ some key → u .identity .held ≡ true
-      → (ltb 0 (u .consent) || u .pairing) ≡ true
-      → Serves (built 0x04 (recoveryKey (u .identity .bytes)) u []) room u
-      (answer (recoveryKey (u .identity .bytes)) u 0x04 (encryptedKey key (u .identity .bytes)))
-      (spent u)
-  -- a ring, and a stop; `a` is mask, timeout and volume
-  pub rings : (u : TagUnit) (room : ℕ) (a : List ℕ) → Open u room → u .identity .held ≡ true → length a ≡ 4
-      → ringLegal (u .settings) a ≡ true → eqb (ringMask (u .settings) a) 0 ≡ false
-      → Serves (built 0x05 (ringKey (u .identity .bytes)) u a) room u
-      (ringNotice (u .identity .bytes) (lastNonce u) started (ringMask (u .settings) a) (askedTimeout a))
-      (withSound (Sound.Ringing (ringMask (u .settings) a) (heldVolume (u .settings) a) (askedTimeout a)) (lastNonce u) (spent u))
-  pub stops : (u : TagUnit) (room : ℕ) (a : List ℕ) → Open u room → u .identity .held ≡ true → length a ≡ 4
-      → ringLegal (u .settings) a ≡ true → eqb (ringMask (u .settings) a) 0 ≡ true
-      → Serves (built 0x05 (ringKey (u .identity .bytes)) u a) room u
-      (stopNotice (u .identity .bytes) (lastNonce u) byRequest)
-      (silenced (spent u))
-  -- under protection with the skip flag, with any tag
-  pub skipRings : (u : TagUnit) (room : ℕ) (tag a : List ℕ) → Open u room → u .identity .held ≡ true → skips (u .protection) ≡ true
-      → length tag ≡ 8 → length a ≡ 4 → ringLegal (u .settings) a ≡ true → eqb (ringMask (u .settings) a) 0 ≡ false
-      → Serves (0x05 ∷ 12 ∷ tag ++ a) room u
-      (ringNotice (u .identity .bytes) (lastNonce u) started (ringMask (u .settings) a) (askedTimeout a))
-      (withSound (Sound.Ringing (ringMask (u .settings) a) (heldVolume (u .settings) a) (askedTimeout a)) (lastNonce u) (spent u))
-  pub skipStops : (u : TagUnit) (room : ℕ) (tag a : List ℕ) → Open u room → u .identity .held ≡ true → skips (u .protection) ≡ true
-      → length tag ≡ 8 → length a ≡ 4 → ringLegal (u .settings) a ≡ true → eqb (ringMask (u .settings) a) 0 ≡ true
-      → Serves (0x05 ∷ 12 ∷ tag ++ a) room u (stopNotice (u .identity .bytes) (lastNonce u) byRequest) (silenced (spent u))
+      → Serves (writes (sent u 0x01 (keyAtPlace u p) []) room) u
+      (answer u 0x01 (keyAtPlace u p) ((cond (u .identity .held) 0x01 0x00 + ownerBit (u .accounts .owner) p) ∷ standing u))
+      (OwnerKnown p u)
+  -- "0x02: owner key .. 48: the last 8 bytes prove the held key. 40: none is held"
+  pub keySet : (u : TagUnit) (room : ℕ) (key C : List ℕ) → Open u room → OwnedWith u key → u .identity .held ≡ false → length C ≡ 32
+      → Serves (writes (sent u 0x02 key C) room) u (answer u 0x02 key []) (Rekeyed key C u)
+  pub keyReplaced : (u : TagUnit) (room : ℕ) (key C : List ℕ) → Open u room → OwnedWith u key → u .identity .held ≡ true → length C ≡ 32
+      → Serves (writes (sent u 0x02 key (C ++ keyProofOf u)) room) u (answer u 0x02 key []) (Rekeyed key C u)
+  -- "0x03: owner key and key proof"
+  pub keyCleared : (u : TagUnit) (room : ℕ) (key : List ℕ) → Open u room → OwnedWith u key → u .identity .held ≡ true
+      → Serves (writes (sent u 0x03 key (keyProofOf u)) room) u (answer u 0x03 key []) (Cleared u)
+  -- "0x04: recovery key; then consent left or pairing on .. Consent isn't used up"
+  pub keyRecovered : (u : TagUnit) (room : ℕ) (key : List ℕ) → Open u room → OwnedWith u key → u .identity .held ≡ true
+      → ((0 < u .consent) ⊎ (u .pairing ≡ true))
+      → Serves (writes (sent u 0x04 (recoveryKeyOf u) []) room) u (answer u 0x04 (recoveryKeyOf u) (keyBlocks key (u .identity .bytes))) (OnlySpends u)
+  -- "0x05 .. ring key": a ring, and a stop, which "ignores timeout"
+  pub rings : (u : TagUnit) (room asked mask timeout volume : ℕ) → Open u room → u .identity .held ≡ true
+      → RingLegal (u .settings .components) asked mask timeout volume
+      → Serves (writes (sent u 0x05 (ringKeyOf u) (ringBytes asked timeout volume)) room) u
+      (startNotice u (u .nonce .bytes) 0 mask timeout)
+      (Rings mask timeout volume u)
+  pub stops : (u : TagUnit) (room high low volume : ℕ) → Open u room → u .identity .held ≡ true → volume ≤ 3
+      → Serves (writes (sent u 0x05 (ringKeyOf u) (0 ∷ high ∷ low ∷ volume ∷ [])) room) u (stopNotice u (u .nonce .bytes) 4) (Stopped u)
+  -- "For 0x05 with protection and skip on, any tag passes"
+  pub skipRings : (u : TagUnit) (room asked mask timeout volume : ℕ) (tag : List ℕ) → Open u room → u .identity .held ≡ true
+      → u .protection ≡ Protection.On true → length tag ≡ 8 → RingLegal (u .settings .components) asked mask timeout volume
+      → Serves (writes (0x05 ∷ 12 ∷ tag ++ ringBytes asked timeout volume) room) u
+      (startNotice u (u .nonce .bytes) 0 mask timeout)
+      (Rings mask timeout volume u)
+  pub skipStops : (u : TagUnit) (room high low volume : ℕ) (tag : List ℕ) → Open u room → u .identity .held ≡ true
+      → u .protection ≡ Protection.On true → length tag ≡ 8 → volume ≤ 3
+      → Serves (writes (0x05 ∷ 12 ∷ tag ++ (0 ∷ high ∷ low ∷ volume ∷ [])) room) u (stopNotice u (u .nonce .bytes) 4) (Stopped u)
+  -- "0x06: ring key"
   pub soundRead : (u : TagUnit) (room : ℕ) → Open u room → u .identity .held ≡ true
-      → Serves (built 0x06 (ringKey (u .identity .bytes)) u []) room u
-      (answer (ringKey (u .identity .bytes)) u 0x06 (soundState (u .sound)))
-      (spent u)
-  -- without the flag byte, and with it
+      → Serves (writes (sent u 0x06 (ringKeyOf u) []) room) u (answer u 0x06 (ringKeyOf u) (soundBytes (u .sound))) (OnlySpends u)
+  -- "0x07: protection key; flag byte absent or 0 means skip off, 1 means on"
   pub protects : (u : TagUnit) (room : ℕ) → Open u room → u .identity .held ≡ true
-      → Serves (built 0x07 (protectionKey (u .identity .bytes)) u []) room u
-      (answer (protectionKey (u .identity .bytes)) u 0x07 [])
-      (withProtection (Protection.On false) (spent u))
+      → Serves (writes (sent u 0x07 (protectionKeyOf u) []) room) u (answer u 0x07 (protectionKeyOf u) []) (Protects (Protection.On false) u)
   pub protectsFlagged : (u : TagUnit) (room flag : ℕ) → Open u room → u .identity .held ≡ true → flag < 2
-      → Serves (built 0x07 (protectionKey (u .identity .bytes)) u (flag ∷ [])) room u
-      (answer (protectionKey (u .identity .bytes)) u 0x07 [])
-      (withProtection (Protection.On (eqb flag 1)) (spent u))
+      → Serves (writes (sent u 0x07 (protectionKeyOf u) (flag ∷ [])) room) u (answer u 0x07 (protectionKeyOf u) []) (Protects (Protection.On (eqb flag 1)) u)
+  -- "0x08: protection key and key proof; protection off, also if it was off"
   pub unprotects : (u : TagUnit) (room : ℕ) → Open u room → u .identity .held ≡ true
-      → Serves (built 0x08 (protectionKey (u .identity .bytes)) u (keyProof (u .identity .bytes) (lastNonce u))) room u
-      (answer (protectionKey (u .identity .bytes)) u 0x08 [])
-      (withProtection Protection.Off (spent u))
+      → Serves (writes (sent u 0x08 (protectionKeyOf u) (keyProofOf u)) room) u (answer u 0x08 (protectionKeyOf u) []) (Protects Protection.Off u)

@@ -1,37 +1,31 @@
 -- An example that the demand on recovery is not empty, for any account key, any 32 encrypted bytes and any nonces: from a fresh unit a key
 -- is added, made owner by 0x01 and used to set an identity key by 0x02; after a press of the button 0x04 is accepted, and answers the 32
 -- bytes. The writes are the bytes that a phone sends, which knows the keys and the nonces that it read.
-use Prim.Native.Nat.{ℕ, _+_}
+use Prim.Native.Nat.{ℕ}
 use mathlib.Core.Path.{_≡_}
 use mathlib.Core.Bool.{true}
 use mathlib.Core.List.{List, [], _∷_, _++_}
-use lib.ListN.{length, replicate}
+use lib.ListN.{length, take, drop, replicate}
 use lib.IntN.{pos}
 use Rattle.laws.specs.Answer.{gives}
-use Rattle.sizes.specs.Sizes.{tagSize, answerRoom, accountKeySize, nonceSize}
-use Rattle.wire.specs.Signing.{requestTag, recoveryKey}
+use Rattle.primitives.specs.Standards.{InvAES128}
 use Rattle.wire.specs.Shape.{parsed}
-use Rattle.wire.specs.KeyBlocks.{decryptedKey}
 use Rattle.unit.specs.declared.Settings.{Settings}
 use Rattle.unit.specs.Change.{fresh}
 use Rattle.unit.specs.WellFormed.{settingsLegal}
 use Rattle.tag.specs.Calls.{read, button, accountKey, Act, calls}
 use Rattle.demands.specs.History.{step, after, writes, Bytes, AllOfBytes}
+use Rattle.demands.specs.Spelled.{keyFrom, requestFrom}
 use Rattle.demands.specs.Recovery.{SetBy, dataOf}
-
--- the write of an ID, signed by a key with a nonce
-unfoldable pub sent : ℕ → List ℕ → List ℕ → List ℕ → List ℕ
-sent id key nonce additional =
-    id ∷ (tagSize + length additional) ∷ requestTag key nonce id (tagSize + length additional) additional ++ additional
 
 -- what is given: legal settings, an account key, the encrypted bytes, and three nonces, none the same as the one before it
 pub record Given (s : Settings) (key C n₁ n₂ n₃ : List ℕ) : Type 0 where
   pub legal : settingsLegal s ≡ true
-  pub keyLong : length key ≡ accountKeySize
+  pub keyLong : length key ≡ 16
   pub encryptedLong : length C ≡ 32
-  pub long₁ : length n₁ ≡ nonceSize
-  pub long₂ : length n₂ ≡ nonceSize
-  pub long₃ : length n₃ ≡ nonceSize
+  pub long₁ : length n₁ ≡ 8
+  pub long₂ : length n₂ ≡ 8
+  pub long₃ : length n₃ ≡ 8
   pub second : n₁ ≡ n₂ → ⊥
   pub third : n₂ ≡ n₃ → ⊥
   pub keyBytes : Bytes key
@@ -43,16 +37,17 @@ pub record Given (s : Settings) (key C n₁ n₂ n₃ : List ℕ) : Type 0 where
 abbrev pub provisioning : (key C n₁ n₂ n₃ : List ℕ) → List Act
 provisioning key C n₁ n₂ n₃ =
     calls (accountKey key) 0
-    ∷ calls (read n₁) answerRoom
-    ∷ writes (sent 0x01 key n₁ []) answerRoom
-    ∷ calls (read n₂) answerRoom
-    ∷ writes (sent 0x02 key n₂ C) answerRoom
-    ∷ calls button answerRoom
-    ∷ calls (read n₃) answerRoom
+    ∷ calls (read n₁) 42
+    ∷ writes (requestFrom 0x01 key n₁ []) 42
+    ∷ calls (read n₂) 42
+    ∷ writes (requestFrom 0x02 key n₂ C) 42
+    ∷ calls button 42
+    ∷ calls (read n₃) 42
     ∷ []
 
+-- the identity key is the two blocks of C, decrypted; the recovery key is made from it with 0x01
 abbrev pub recovering : (key C n₃ : List ℕ) → List ℕ
-recovering key C n₃ = sent 0x04 (recoveryKey (decryptedKey key C)) n₃ []
+recovering key C n₃ = requestFrom 0x04 (keyFrom 0x01 (InvAES128 key (take 16 C) ++ InvAES128 key (take 16 (drop 16 C)))) n₃ []
 
 -- everything that the demand on recovery asks of a history and a write, and what it says of the answer
 pub record Shown (s : Settings) (key C n₁ n₂ n₃ : List ℕ) : Type 0 where
@@ -60,7 +55,7 @@ pub record Shown (s : Settings) (key C n₁ n₂ n₃ : List ℕ) : Type 0 where
   pub setBy : SetBy (fresh s) (provisioning key C n₁ n₂ n₃) C
   pub recovers : parsed (recovering key C n₃) .id ≡ 0x04
   pub accepted : (answer : List ℕ)
-      × (step (writes (recovering key C n₃) answerRoom) (after (provisioning key C n₁ n₂ n₃) (fresh s)) .result ≡ gives answer)
+      × (step (writes (recovering key C n₃) 42) (after (provisioning key C n₁ n₂ n₃) (fresh s)) .result ≡ gives answer)
       × (dataOf answer ≡ C)
 
 pub record Example : Type 0 where
