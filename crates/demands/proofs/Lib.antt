@@ -15,6 +15,7 @@ pub mod Time
 pub mod Judging
 pub mod Spelling
 pub mod Accepted
+pub mod Events
 pub mod Ruled
 pub mod Beside
 pub mod Noncing

@@ -6,6 +6,7 @@ pub mod Accepted
 pub mod Refused
 pub mod RecordLines
 pub mod RefusalOrder
+pub mod Events
 pub mod Nonces
 pub mod Recovery
 pub mod Time

@@ -1,0 +1,204 @@
+-- The button, pairing, battery, account keys, the lent identifier, the frame and one tenth, in literal numbers: each call passes its guards and does its
+-- own, whose definition, opened, is what the literal terms say.
+use Prim.Native.Nat.{ℕ, suc, _+_, _*_, _-_, _/_, _%_, _≤_, _<_}
+use mathlib.Core.Path.{_≡_, refl, sym, _∙_}
+use mathlib.Core.Bool.{Bool, true, false}
+use mathlib.Core.List.{List, [], _∷_, _++_, append-nil}
+use native.Mathlib.Omega.{arith}
+use lib.Dec.{eqb}
+use lib.ListN.{length, getD, replicate}
+use borrow.Author.Tests.{le-leb, lt-leb, lt-ltb, eq-eqb, ne-eqb, eqb-true, eqb-false}
+use Rattle.laws.specs.Answer.{gives}
+use Rattle.laws.specs.Bytes.{bigEndian}
+use Rattle.laws.proofs.Flags.{and-fails-right}
+use Rattle.laws.proofs.Same.{differ-same}
+use Rattle.tables.specs.Rows.{among}
+use Rattle.tables.proofs.Rows.{among-place}
+use Rattle.wire.specs.Signing.{derivedKey, answerTag, signed, ringNotice}
+use Rattle.unit.specs.declared.TagUnit.{TagUnit}
+use Rattle.unit.specs.declared.Clock.{Clock}
+use Rattle.unit.specs.declared.Sound.{Sound}
+use Rattle.unit.specs.WellFormed.{wellFormed, heldKeys}
+use Rattle.unit.specs.Change.{withClock, withPairing, withAccounts, withNewKey, withSound, withConsent}
+use Rattle.unit.specs.Outcome.{Outcome, giving, formed}
+use Rattle.unit.proofs.Lines.{lines, held-count, identifier-held}
+use Rattle.frame.specs.Frame.{rendered, flagsFor}
+use Rattle.time.specs.Time.{clockOn, endsNext, soundOn, ringOn, oneTenth, timeoutNotice, afterTenth, tenths}
+use Rattle.tag.specs.Own.{pressed, charged, keeping, lending, protected, showing}
+use Rattle.tag.specs.Calls.{Call, button, accountKey, frame, own, guarded, call, elapsed, calls, waits, act}
+use Rattle.demands.specs.History.{step}
+use Rattle.demands.specs.Spelled.{keyAtPlace}
+use Rattle.demands.specs.Accepted.{Serves, windowOf, stopNotice}
+use Rattle.demands.specs.Events.{Hushed, Consents, Keeps, Lends, Same, Shows, masked, TenthPasses, Ticks, Events}
+use Rattle.demands.proofs.Judging.{opened}
+use Rattle.demands.proofs.Spelling.{key-at}
+use Rattle.demands.proofs.Accepted.{serves}
+
+-- A call without answer bytes on a well-formed unit does its own
+settles : (u : TagUnit) (o : Outcome) → wellFormed u ≡ true → formed u o ≡ o
+unfolding formed
+settles u o right = rw right
+
+-- The button
+stops-it : (u : TagUnit) (room mask volume left : ℕ) → wellFormed u ≡ true → 42 ≤ room → u .sound ≡ Sound.Ringing mask volume left
+    → Serves (calls button room) u (stopNotice u (u .«ring_nonce») 3) (Hushed u)
+unfolding act call guarded own pressed ringNotice signed answerTag derivedKey bigEndian
+stops-it u room mask volume left right fits e =
+    serves (opened u room (pressed (u .sound) u) right fits ∙ rw e)
+    (record { silent = (refl, refl); rest = (refl, refl, refl, refl, refl, tt, tt, refl, refl, refl, refl, refl) })
+
+consents : (u : TagUnit) (room : ℕ) → wellFormed u ≡ true → 42 ≤ room → u .sound ≡ Sound.Silent
+    → Serves (calls button room) u [] (Consents u)
+unfolding act call guarded own pressed
+consents u room right fits e =
+    serves (opened u room (pressed (u .sound) u) right fits ∙ rw e)
+    (record { tenths = refl; rest = (refl, refl, refl, refl, refl, refl, refl, refl, tt, refl, refl, refl) })
+
+-- Account keys: one that stands at no place is not among those held
+not-among : (key : List ℕ) (l : List (List ℕ)) → ((i : ℕ) → i < length l → getD l i [] ≡ key → ⊥) → among key l ≡ false
+unfolding among
+not-among key [] other = refl
+not-among key (k ∷ ks) other =
+    rw (differ-same key k (λ e. other 0 (omega arith) (sym e)))
+    (not-among key ks (λ i h. other (suc i) (omega arith)))
+
+held-already : (u : TagUnit) (room p : ℕ) (key : List ℕ) → wellFormed u ≡ true → length key ≡ 16 → p < u .accounts .count → keyAtPlace u p ≡ key
+    → Serves (calls (accountKey key) room) u [] (Same u)
+unfolding act call guarded own keeping
+held-already u room p key right long held e =
+    let there : among (getD (heldKeys (u .accounts)) p []) (heldKeys (u .accounts)) ≡ true
+    = among-place (heldKeys (u .accounts)) p (omega (arith, held-count (u .accounts))) in
+    let is : among key (heldKeys (u .accounts)) ≡ true = rw (key-at u p held ∙ e) at there in
+    serves (settles u (keeping key u) right ∙ rw (eq-eqb (length key) 16 long, is)) refl
+
+added : (u : TagUnit) (room : ℕ) (key : List ℕ) → wellFormed u ≡ true → length key ≡ 16 → u .accounts .count < 5
+    → ((p : ℕ) → p < u .accounts .count → keyAtPlace u p ≡ key → ⊥)
+    → Serves (calls (accountKey key) room) u [] (Keeps key u)
+unfolding act call guarded own keeping
+added u room key right long few other =
+    let new = not-among key (heldKeys (u .accounts))
+    (λ i h. let low : i < u .accounts .count = omega (arith, held-count (u .accounts)) in
+    λ e. other i low (sym (key-at u i low) ∙ e)) in
+    let from : u .accounts .count * 16 ≡ 16 * u .accounts .count = omega arith in
+    serves {v = withAccounts (withNewKey key (u .accounts)) u}
+    (settles u (keeping key u) right ∙ rw (eq-eqb (length key) 16 long, new, lt-ltb (u .accounts .count) 5 few))
+    (record {
+      count = refl;
+      owner = refl;
+      keys = rw (from, long);
+      rest = (refl, refl, refl, tt, refl, refl, refl, refl, refl, refl, refl, refl);
+    })
+
+-- The lent identifier, and the frame of one that stands
+lends-it : (u : TagUnit) (room : ℕ) (r id : List ℕ) → wellFormed u ≡ true → length r ≡ 20 → length id ≡ 20 → u .identity .held ≡ true
+    → Serves (calls (Call.identifier r id) room) u [] (Lends r id u)
+unfolding act call guarded own lending
+lends-it u room r id right long₁ long₂ held =
+    serves (settles u (lending r id u) right ∙ rw (eq-eqb (length r) 20 long₁, eq-eqb (length id) 20 long₂, held))
+    (record { identifierIs = refl; rest = (refl, refl, refl, refl, refl, refl, refl, refl, refl, refl, refl, tt) })
+
+abbrev shown : ℕ → Bool → List ℕ → List ℕ → List ℕ
+shown level on r id = rendered id on (flagsFor level on r)
+
+shows-it : (u : TagUnit) (room : ℕ) (level : ℕ) (on : Bool) {bytes : List ℕ} → Shows u room → u .battery ≡ level → protected (u .protection) ≡ on
+    → shown level on (u .identifier .r) (u .identifier .id) ≡ bytes
+    → Serves (calls frame room) u bytes (Same u)
+unfolding act call guarded own showing
+shows-it u room level on {bytes} s l o e =
+    let is : shown (u .battery) (protected (u .protection)) (u .identifier .r) (u .identifier .id) ≡ bytes = rw (l, o) e in
+    let now = eq-eqb (u .identifier .window) (windowOf (u .clock .seconds)) (s .current) in
+    serves
+    (opened u room (showing u) (s .formed) (s .fits)
+    ∙ rw (identifier-held (lines u (s .formed)) (s .lent), s .lent, now, is))
+    refl
+
+-- its bytes: without the flags byte, with it, and under protection
+module _ (r id : List ℕ) where
+  bare-bytes : shown 0 false r id ≡ 0x02 ∷ 0x01 ∷ 0x06 ∷ 0x18 ∷ 0x16 ∷ 0xAA ∷ 0xFE ∷ 0x40 ∷ id
+  unfolding rendered flagsFor
+  bare-bytes = rw append-nil
+
+  flagged-bytes : (level : ℕ) → 0 < level
+      → shown level false r id ≡ 0x02 ∷ 0x01 ∷ 0x06 ∷ 0x19 ∷ 0x16 ∷ 0xAA ∷ 0xFE ∷ 0x40 ∷ id ++ (masked (level * 2) r ∷ [])
+  unfolding rendered flagsFor
+  flagged-bytes level more =
+      let off : level * 2 + 0 ≡ level * 2 = omega arith in
+      rw (ne-eqb level 0 (λ e. omega arith), off)
+
+  protected-bytes : (level : ℕ)
+      → shown level true r id ≡ 0x02 ∷ 0x01 ∷ 0x06 ∷ 0x19 ∷ 0x16 ∷ 0xAA ∷ 0xFE ∷ 0x41 ∷ id ++ (masked (level * 2 + 1) r ∷ [])
+  unfolding rendered flagsFor
+  protected-bytes level = rw (and-fails-right (eqb level 0) refl)
+
+-- One tenth
+tenth-is : (u : TagUnit) (room : ℕ) → wellFormed u ≡ true → 42 ≤ room → step (waits 1 room) u ≡ afterTenth 0 (giving [] u)
+unfolding act elapsed guarded tenths
+tenth-is u room right fits = opened u room (tenths 1 u) right fits
+
+clock-on : (c : Clock) → c .tenth ≤ 9 → c .seconds < 4294967296
+    → (clockOn c .tenth ≡ (c .tenth + 1) % 10) × (clockOn c .seconds ≡ (c .seconds + (c .tenth + 1) / 10) % 4294967296)
+unfolding clockOn
+clock-on c low small = go (eqb (c .tenth) 9) refl
+  where
+    go : (b : Bool) → eqb (c .tenth) 9 ≡ b
+        → (clockOn c .tenth ≡ (c .tenth + 1) % 10) × (clockOn c .seconds ≡ (c .seconds + (c .tenth + 1) / 10) % 4294967296)
+    go true e = let nine : c .tenth ≡ 9 = eqb-true (c .tenth) 9 e in (rw e (omega arith), rw (e, nine))
+    go false e =
+        let below : c .tenth < 9 = omega (arith, eqb-false (c .tenth) 9 e) in
+        let none : (c .tenth + 1) / 10 ≡ 0 = omega arith in
+        (rw e (omega arith), rw (e, none) (omega arith))
+
+abbrev later : Sound → List ℕ → TagUnit → TagUnit
+later s with u = withClock (clockOn (u .clock)) (withConsent (u .consent - 1) (withSound s with u))
+
+passes : (u : TagUnit) (room : ℕ) (answer : List ℕ) (ended : ℕ) (s : Sound) (with : List ℕ) → Ticks u room
+    → step (waits 1 room) u ≡ record { unit = later s with u; result = gives answer; ended = ended }
+    → TenthPasses u room answer ended s with
+passes u room answer ended s with t e =
+    let on = clock-on (u .clock) (lines u (t .formed) .tenth) (t .small) in
+    record {
+      answered = rw e;
+      reported = rw e;
+      soundIs = rw e;
+      nonceIs = rw e;
+      tenth = rw e (on .0);
+      seconds = rw e (on .1);
+      consentLeft = rw e;
+      rest = rw e (refl, tt, refl, refl, refl, tt, tt, refl, tt, refl, refl, refl);
+    }
+
+goes-on : (u : TagUnit) (room : ℕ) (s : Sound) → Ticks u room → endsNext (u .sound) ≡ false → soundOn (u .sound) ≡ s
+    → TenthPasses u room [] 0 s (u .«ring_nonce»)
+unfolding afterTenth oneTenth ringOn
+goes-on u room s t more on = passes u room [] 0 s (u .«ring_nonce») t (tenth-is u room (t .formed) (t .fits) ∙ rw (more, on))
+
+ends : (u : TagUnit) (room : ℕ) → Ticks u room → endsNext (u .sound) ≡ true
+    → TenthPasses u room (stopNotice u (u .«ring_nonce») 2) 1 Sound.Silent (replicate 8 0)
+unfolding afterTenth oneTenth ringOn timeoutNotice ringNotice signed answerTag derivedKey bigEndian
+ends u room t e =
+    passes u room (stopNotice u (u .«ring_nonce») 2) 1 Sound.Silent (replicate 8 0) t (tenth-is u room (t .formed) (t .fits) ∙ rw e)
+
+pub events : Events
+unfolding act call guarded own charged
+events =
+    record {
+      buttonStops = stops-it;
+      buttonConsents = consents;
+      pairingSet = λ u room on right.
+          serves (settles u (giving [] (withPairing on u)) right)
+          (record { flag = refl; rest = (refl, refl, refl, refl, refl, refl, refl, refl, refl, tt, refl, refl) });
+      batterySet = λ u room level right low.
+          serves (settles u (charged level u) right ∙ rw (le-leb level 3 low))
+          (record { levelIs = refl; rest = (refl, refl, refl, refl, refl, refl, refl, refl, refl, refl, tt, refl) });
+      keyHeld = held-already;
+      keyAdded = added;
+      identifierLent = lends-it;
+      frameBare = λ u room s none off. shows-it u room 0 false s none (rw off) (bare-bytes (u .identifier .r) (u .identifier .id));
+      frameFlagged = λ u room s more off.
+          shows-it u room (u .battery) false s refl (rw off) (flagged-bytes (u .identifier .r) (u .identifier .id) (u .battery) more);
+      frameProtected = λ u room skip s on.
+          shows-it u room (u .battery) true s refl (rw on) (protected-bytes (u .identifier .r) (u .identifier .id) (u .battery));
+      tenthSilent = λ u room t e. goes-on u room Sound.Silent t (rw e) (rw e);
+      tenthRinging = λ u room mask volume left t e more. goes-on u room (Sound.Ringing mask volume (left - 1)) t (rw (e, lt-leb left 1 more)) (rw e);
+      tenthEnds = λ u room mask volume t e. ends u room t (rw e);
+    }

@@ -1,0 +1,120 @@
+-- Demand 2, what is no read and no write: the button, pairing, battery, account keys, the lent identifier, the frame and one tenth of time.
+-- Each gives these bytes and changes these parts of a well-formed unit, in literal numbers, and no other part. More tenths than one are that
+-- many single tenths by demand 3.
+use Prim.Native.Nat.{ℕ, _+_, _*_, _-_, _/_, _%_, _≤_, _<_}
+use mathlib.Core.Path.{_≡_}
+use mathlib.Core.Bool.{Bool, true}
+use mathlib.Core.List.{List, [], _∷_, _++_}
+use lib.Bits.{bitXor}
+use lib.ListN.{length, take, drop, getD, replicate}
+use Rattle.laws.specs.Answer.{gives}
+use Rattle.primitives.specs.Standards.{SHA256}
+use Rattle.unit.specs.declared.TagUnit.{TagUnit}
+use Rattle.unit.specs.declared.Sound.{Sound}
+use Rattle.unit.specs.declared.Protection.{Protection}
+use Rattle.unit.specs.WellFormed.{wellFormed}
+use Rattle.tag.specs.Calls.{Call, button, accountKey, frame, calls, waits}
+use Rattle.demands.specs.History.{step}
+use Rattle.demands.specs.Spelled.{keyAtPlace, AllBut, Part, clock, accounts, sound, ringNonce, consent}
+use Rattle.demands.specs.Accepted.{Serves, Silent, windowOf, stopNotice}
+
+-- "A press while ringing stops it .. and gives no consent"
+pub record Hushed (u v : TagUnit) : Type 0 where
+  pub silent : Silent v
+  pub rest : AllBut (sound ∷ ringNonce ∷ []) u v
+
+-- "A press while silent sets consent to 600 (house)"
+pub record Consents (u v : TagUnit) : Type 0 where
+  pub tenths : v .consent ≡ 600
+  pub rest : AllBut (consent ∷ []) u v
+
+pub record Pairs (on : Bool) (u v : TagUnit) : Type 0 where
+  pub flag : v .pairing ≡ on
+  pub rest : AllBut (Part.pairing ∷ []) u v
+
+pub record Charged (level : ℕ) (u v : TagUnit) : Type 0 where
+  pub levelIs : v .battery ≡ level
+  pub rest : AllBut (Part.battery ∷ []) u v
+
+-- a key of 16 bytes behind those held
+pub record Keeps (key : List ℕ) (u v : TagUnit) : Type 0 where
+  pub count : v .accounts .count ≡ u .accounts .count + 1
+  pub owner : v .accounts .owner ≡ u .accounts .owner
+  pub keys : v .accounts .keys ≡ take (16 * u .accounts .count) (u .accounts .keys) ++ (key ++ drop (16 * u .accounts .count + 16) (u .accounts .keys))
+  pub rest : AllBut (accounts ∷ []) u v
+
+pub record Lends (r id : List ℕ) (u v : TagUnit) : Type 0 where
+  pub identifierIs : v .identifier ≡ record { held = true; r = r; id = id; window = windowOf (u .clock .seconds) }
+  pub rest : AllBut (Part.identifier ∷ []) u v
+
+abbrev pub Same : TagUnit → TagUnit → Type 0
+Same u v = v ≡ u
+
+-- a unit that shows a frame: "Refusal 5 without a key or an identifier for the current window"; an identifier is lent "only with an
+-- identity key"
+pub record Shows (u : TagUnit) (room : ℕ) : Type 0 where
+  pub formed : wellFormed u ≡ true
+  pub fits : 42 ≤ room
+  pub lent : u .identifier .held ≡ true
+  pub current : u .identifier .window ≡ windowOf (u .clock .seconds)
+
+-- "XOR the last byte of SHA256(r)"
+abbrev pub masked : ℕ → List ℕ → ℕ
+masked flags r = bitXor flags (getD (SHA256 r) 31 0)
+
+-- what one tenth gives and leaves: the answer, the tenth reported, the sound with its nonce, and "clock on by one; .. consent less one unless
+-- 0"; "seconds as 32 bits, and a tenth 0 to 9 .. after the last second it returns to 0 on purpose"
+pub record TenthPasses (u : TagUnit) (room : ℕ) (answer : List ℕ) (ended : ℕ) (s : Sound) (with : List ℕ) : Type 0 where
+  pub answered : step (waits 1 room) u .result ≡ gives answer
+  pub reported : step (waits 1 room) u .ended ≡ ended
+  pub soundIs : step (waits 1 room) u .unit .sound ≡ s
+  pub nonceIs : step (waits 1 room) u .unit .«ring_nonce» ≡ with
+  pub tenth : step (waits 1 room) u .unit .clock .tenth ≡ (u .clock .tenth + 1) % 10
+  pub seconds : step (waits 1 room) u .unit .clock .seconds ≡ (u .clock .seconds + (u .clock .tenth + 1) / 10) % 4294967296
+  pub consentLeft : step (waits 1 room) u .unit .consent ≡ u .consent - 1
+  pub rest : AllBut (clock ∷ sound ∷ ringNonce ∷ consent ∷ []) u (step (waits 1 room) u .unit)
+
+-- a unit on which time passes
+pub record Ticks (u : TagUnit) (room : ℕ) : Type 0 where
+  pub formed : wellFormed u ≡ true
+  pub fits : 42 ≤ room
+  pub small : u .clock .seconds < 4294967296
+
+pub record Events : Type 0 where
+  -- "A press while ringing stops it, status 3"; "button notices use the nonce of the accepted ring"
+  pub buttonStops : (u : TagUnit) (room mask volume left : ℕ) → wellFormed u ≡ true → 42 ≤ room → u .sound ≡ Sound.Ringing mask volume left
+      → Serves (calls button room) u (stopNotice u (u .«ring_nonce») 3) (Hushed u)
+  pub buttonConsents : (u : TagUnit) (room : ℕ) → wellFormed u ≡ true → 42 ≤ room → u .sound ≡ Sound.Silent
+      → Serves (calls button room) u [] (Consents u)
+  pub pairingSet : (u : TagUnit) (room : ℕ) (on : Bool) → wellFormed u ≡ true → Serves (calls (Call.pairing on) room) u [] (Pairs on u)
+  pub batterySet : (u : TagUnit) (room level : ℕ) → wellFormed u ≡ true → level ≤ 3 → Serves (calls (Call.battery level) room) u [] (Charged level u)
+  -- "Adding a key already held succeeds and changes nothing, even when full"
+  pub keyHeld : (u : TagUnit) (room p : ℕ) (key : List ℕ) → wellFormed u ≡ true → length key ≡ 16 → p < u .accounts .count → keyAtPlace u p ≡ key
+      → Serves (calls (accountKey key) room) u [] (Same u)
+  -- "Up to 5 account keys of 16 bytes, no two equal, in order of arrival"
+  pub keyAdded : (u : TagUnit) (room : ℕ) (key : List ℕ) → wellFormed u ≡ true → length key ≡ 16 → u .accounts .count < 5
+      → ((p : ℕ) → p < u .accounts .count → keyAtPlace u p ≡ key → ⊥)
+      → Serves (calls (accountKey key) room) u [] (Keeps key u)
+  -- "The host lends, for the current window, r (20 bytes) and the identifier (20 bytes)"
+  pub identifierLent : (u : TagUnit) (room : ℕ) (r id : List ℕ) → wellFormed u ≡ true → length r ≡ 20 → length id ≡ 20 → u .identity .held ≡ true
+      → Serves (calls (Call.identifier r id) room) u [] (Lends r id u)
+  -- "02 01 06, length 0x18 or 0x19, 16 AA FE, 0x40 (0x41 under protection), identifier: 28 bytes, or 29 with the flags byte, when the length
+  -- is 0x19. The flags byte is battery times 2 plus protection, XOR the last byte of SHA256(r); left out, exactly, when battery and
+  -- protection are both 0"
+  pub frameBare : (u : TagUnit) (room : ℕ) → Shows u room → u .battery ≡ 0 → u .protection ≡ Protection.Off
+      → Serves (calls frame room) u (0x02 ∷ 0x01 ∷ 0x06 ∷ 0x18 ∷ 0x16 ∷ 0xAA ∷ 0xFE ∷ 0x40 ∷ u .identifier .id) (Same u)
+  pub frameFlagged : (u : TagUnit) (room : ℕ) → Shows u room → 0 < u .battery → u .protection ≡ Protection.Off
+      → Serves (calls frame room) u
+      (0x02 ∷ 0x01 ∷ 0x06 ∷ 0x19 ∷ 0x16 ∷ 0xAA ∷ 0xFE ∷ 0x40 ∷ u .identifier .id ++ (masked (u .battery * 2) (u .identifier .r) ∷ []))
+      (Same u)
+  pub frameProtected : (u : TagUnit) (room : ℕ) (skip : Bool) → Shows u room → u .protection ≡ Protection.On skip
+      → Serves (calls frame room) u
+      (0x02 ∷ 0x01 ∷ 0x06 ∷ 0x19 ∷ 0x16 ∷ 0xAA ∷ 0xFE ∷ 0x41 ∷ u .identifier .id ++ (masked (u .battery * 2 + 1) (u .identifier .r) ∷ []))
+      (Same u)
+  -- "One tenth: clock on by one; ring left less one, and at 0 silent with a status 2 notice; consent less one unless 0"; "Timeout .. notices
+  -- use the nonce of the accepted ring"; a call "reports the tenth .. at which a ring ended, or 0"
+  pub tenthSilent : (u : TagUnit) (room : ℕ) → Ticks u room → u .sound ≡ Sound.Silent → TenthPasses u room [] 0 Sound.Silent (u .«ring_nonce»)
+  pub tenthRinging : (u : TagUnit) (room mask volume left : ℕ) → Ticks u room → u .sound ≡ Sound.Ringing mask volume left → 1 < left
+      → TenthPasses u room [] 0 (Sound.Ringing mask volume (left - 1)) (u .«ring_nonce»)
+  pub tenthEnds : (u : TagUnit) (room mask volume : ℕ) → Ticks u room → u .sound ≡ Sound.Ringing mask volume 1
+      → TenthPasses u room (stopNotice u (u .«ring_nonce») 2) 1 Sound.Silent (replicate 8 0)
