@@ -37,7 +37,7 @@ use Rattle.demands.specs.History.{step, writes}
 use Rattle.demands.specs.Spelled.{keyAtPlace, OwnedWith, NonceSpent, OnlySpends}
 use Rattle.demands.specs.Accepted.{Serves, Open, sent, answer, First, ownerBit, standing, OwnerKnown, Rekeyed, Cleared, startNotice, stopNotice, RingLegal, ringBytes, Rings, Stopped, Protects, Accepted}
 use Rattle.demands.proofs.Spelling.{parameters-are, timeout-is, meant, ring-legal, stop-legal, key-at, owner-at, claimed-owner, claimed-count, claimed-keys, owner-bit, standing-is, sound-state}
-use Rattle.demands.proofs.Judging.{opened, length-requestTag, length-keyProof, requestOf, accepted-as, own-tag}
+use Rattle.demands.proofs.Judging.{opened, length-requestTag, length-keyProof, requestOf, judged-as, own-tag}
 
 -- an act whose outcome is known is served with what that outcome gives
 pub serves : {a : Act} {u v : TagUnit} {answer : List ℕ} {Left : TagUnit → Type 0} → step a u ≡ giving answer v → Left v → Serves a u answer Left
@@ -95,7 +95,7 @@ unfolding requestTag
 signed-as u room id size key additional sized ready legal there judgement left =
     rw sized
     (serves
-    (accepted-as id size (asked u id size key additional .tag) additional (length-requestTag key (u .nonce .bytes) id size additional)
+    (judged-as id size (asked u id size key additional .tag) additional (length-requestTag key (u .nonce .bytes) id size additional)
     sized ready legal there judgement)
     left)
 
@@ -263,11 +263,11 @@ accepted =
       skipRings = λ u room asked mask timeout volume tag ready held skip eight legal.
           let a = ringBytes asked timeout volume in
           let judgement = ring-judged u tag asked mask timeout volume (few ready) legal (rw skip) in
-          serves (accepted-as 0x05 12 tag a eight refl ready refl held judgement) (rings-as mask timeout volume u);
+          serves (judged-as 0x05 12 tag a eight refl ready refl held judgement) (rings-as mask timeout volume u);
       skipStops = λ u room high low volume tag ready held skip eight quiet.
           let a : List ℕ = 0 ∷ high ∷ low ∷ volume ∷ [] in
           let judgement = stop-judged u tag high low volume (few ready) quiet (rw skip) in
-          serves (accepted-as 0x05 12 tag a eight refl ready refl held judgement) (stopped u);
+          serves (judged-as 0x05 12 tag a eight refl ready refl held judgement) (stopped u);
       soundRead = λ u room ready held.
           let key = ringKey (u .identity .bytes) in
           signed-as u room 0x06 8 key [] refl ready refl held

@@ -6,6 +6,7 @@ use mathlib.Core.Bool.{Bool, true, false}
 use mathlib.Core.List.{List, [], _∷_, _++_, append-nil}
 use native.Mathlib.Omega.{arith}
 use lib.Dec.{eqb}
+use lib.IntN.{ℤ, pos, negsuc}
 use lib.ListN.{length, getD, replicate}
 use borrow.Author.Tests.{le-leb, lt-leb, lt-ltb, eq-eqb, ne-eqb, eqb-true, eqb-false}
 use Rattle.laws.specs.Answer.{gives}
@@ -18,18 +19,18 @@ use Rattle.wire.specs.Signing.{derivedKey, answerTag, signed, ringNotice}
 use Rattle.unit.specs.declared.TagUnit.{TagUnit}
 use Rattle.unit.specs.declared.Clock.{Clock}
 use Rattle.unit.specs.declared.Sound.{Sound}
-use Rattle.unit.specs.WellFormed.{wellFormed, heldKeys}
-use Rattle.unit.specs.Change.{withClock, withPairing, withAccounts, withNewKey, withSound, withConsent}
+use Rattle.unit.specs.WellFormed.{powerLegal, settingsLegal, wellFormed, heldKeys}
+use Rattle.unit.specs.Change.{fresh, withClock, withPairing, withAccounts, withNewKey, withSound, withConsent}
 use Rattle.unit.specs.Outcome.{Outcome, giving, formed}
 use Rattle.unit.proofs.Lines.{lines, held-count, identifier-held}
 use Rattle.frame.specs.Frame.{rendered, flagsFor}
 use Rattle.time.specs.Time.{clockOn, endsNext, soundOn, ringOn, oneTenth, timeoutNotice, afterTenth, tenths}
 use Rattle.tag.specs.Own.{pressed, charged, keeping, lending, protected, showing}
-use Rattle.tag.specs.Calls.{Call, button, accountKey, frame, own, guarded, call, elapsed, calls, waits, act}
+use Rattle.tag.specs.Calls.{newUnit, Call, button, accountKey, frame, own, guarded, call, elapsed, calls, waits, act}
 use Rattle.demands.specs.History.{step}
 use Rattle.demands.specs.Spelled.{keyAtPlace}
 use Rattle.demands.specs.Accepted.{Serves, windowOf, stopNotice}
-use Rattle.demands.specs.Events.{Hushed, Consents, Keeps, Lends, Same, Shows, masked, TenthPasses, Ticks, Events}
+use Rattle.demands.specs.Events.{PowerWithin, Fresh, Hushed, Consents, Keeps, Lends, Same, Shows, masked, TenthPasses, Ticks, Events}
 use Rattle.demands.proofs.Judging.{opened}
 use Rattle.demands.proofs.Spelling.{key-at}
 use Rattle.demands.proofs.Accepted.{serves}
@@ -38,6 +39,33 @@ use Rattle.demands.proofs.Accepted.{serves}
 settles : (u : TagUnit) (o : Outcome) → wellFormed u ≡ true → formed u o ≡ o
 unfolding formed
 settles u o right = rw right
+
+-- A new unit
+power-legal : (power : ℤ) → PowerWithin power → powerLegal power ≡ true
+power-legal (pos n) h = le-leb n 20 h
+power-legal (negsuc n) h = le-leb n 99 (omega arith)
+
+makes : (power : ℤ) (components selectable : ℕ) → PowerWithin power → components ≤ 3 → selectable ≤ 1
+    → newUnit power components selectable ≡ giving [] (fresh (record { power = power; components = components; selectable = selectable }))
+unfolding newUnit settingsLegal
+makes power components selectable p few one = rw (power-legal power p, le-leb components 3 few, le-leb selectable 1 one)
+
+fresh-is : (power : ℤ) (components selectable : ℕ)
+    → Fresh power components selectable (fresh (record { power = power; components = components; selectable = selectable }))
+fresh-is power components selectable =
+    record {
+      settingsAre = refl;
+      clockIs = refl;
+      noNonce = refl;
+      noAccounts = refl;
+      noIdentity = refl;
+      silent = (refl, refl);
+      unprotected = refl;
+      unconsented = refl;
+      unpaired = refl;
+      unknown = refl;
+      unlent = refl;
+    }
 
 -- The button
 stops-it : (u : TagUnit) (room mask volume left : ℕ) → wellFormed u ≡ true → 42 ≤ room → u .sound ≡ Sound.Ringing mask volume left
@@ -182,6 +210,8 @@ pub events : Events
 unfolding act call guarded own charged
 events =
     record {
+      unitMade = λ power components selectable p few one.
+          (rw (makes power components selectable p few one), rw (makes power components selectable p few one) (fresh-is power components selectable));
       buttonStops = stops-it;
       buttonConsents = consents;
       pairingSet = λ u room on right.

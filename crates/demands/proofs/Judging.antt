@@ -19,8 +19,8 @@ use Rattle.wire.specs.Shape.{Request, parsed, sizeLegal, shapeLegal}
 use Rattle.unit.specs.declared.TagUnit.{TagUnit}
 use Rattle.unit.specs.WellFormed.{wellFormed}
 use Rattle.unit.specs.Change.{spent}
-use Rattle.unit.specs.Outcome.{Outcome, giving, formed, answering}
-use Rattle.authentication.specs.Judgement.{accepts, tagged}
+use Rattle.unit.specs.Outcome.{Outcome, formed, answering}
+use Rattle.authentication.specs.Judgement.{Judgement, tagged, settled}
 use Rattle.requests.specs.Write.{byId, needsKey, judged, written}
 use Rattle.tag.specs.Calls.{own, guarded, call, act}
 use Rattle.demands.specs.History.{step, writes}
@@ -70,14 +70,14 @@ pub opened : (u : TagUnit) (room : ℕ) (o : Outcome) → wellFormed u ≡ true 
 unfolding answering formed
 opened u room o right fits = rw (le-ltb room answerRoom fits, right)
 
-pub accepted-as : {u : TagUnit} {room : ℕ} {after : TagUnit} {answer : List ℕ} (id size : ℕ) (mark additional : List ℕ) → length mark ≡ 8
+pub judged-as : {u : TagUnit} {room : ℕ} {j : Judgement} (id size : ℕ) (mark additional : List ℕ) → length mark ≡ 8
     → tagSize + length additional ≡ size → Open u room → sizeLegal id size ≡ true → (ltb id needsKey || u .identity .held) ≡ true
-    → byId (spent u) (requestOf id size mark additional) ≡ accepts after answer
-    → step (writes (bytesOf id size mark additional) room) u ≡ giving answer after
+    → byId (spent u) (requestOf id size mark additional) ≡ j
+    → step (writes (bytesOf id size mark additional) room) u ≡ settled (spent u) j
 unfolding act call guarded own written judged
-accepted-as {u} {room} id size mark additional eight sized ready legal there accepted =
+judged-as {u} {room} id size mark additional eight sized ready legal there is =
     opened u room (written u (bytesOf id size mark additional)) (ready .formed) (ready .fits)
-    ∙ rw (shape id size mark additional eight sized legal, ready .live, parts id size mark additional eight sized, there, accepted)
+    ∙ rw (shape id size mark additional eight sized legal, ready .live, parts id size mark additional eight sized, there, is)
 
 -- the tag that a key makes is the one that it is held to
 pub own-tag : (key nonce : List ℕ) (id size : ℕ) (additional : List ℕ)

@@ -1,22 +1,44 @@
--- Demand 2, what is no read and no write: the button, pairing, battery, account keys, the lent identifier, the frame and one tenth of time.
--- Each gives these bytes and changes these parts of a well-formed unit, in literal numbers, and no other part. More tenths than one are that
--- many single tenths by demand 3.
+-- Demand 2, what is no read and no write: a new unit, the button, pairing, battery, account keys, the lent identifier, the frame and one tenth
+-- of time. Each gives these bytes and changes these parts of a well-formed unit, in literal numbers, and no other part. More tenths than one
+-- are that many single tenths by demand 3.
 use Prim.Native.Nat.{ℕ, _+_, _*_, _-_, _/_, _%_, _≤_, _<_}
 use mathlib.Core.Path.{_≡_}
-use mathlib.Core.Bool.{Bool, true}
+use mathlib.Core.Bool.{Bool, true, false}
 use mathlib.Core.List.{List, [], _∷_, _++_}
 use lib.Bits.{bitXor}
+use lib.IntN.{ℤ, pos, negsuc}
 use lib.ListN.{length, take, drop, getD, replicate}
 use Rattle.laws.specs.Answer.{gives}
 use Rattle.primitives.specs.Standards.{SHA256}
 use Rattle.unit.specs.declared.TagUnit.{TagUnit}
+use Rattle.unit.specs.declared.Owner.{Owner}
 use Rattle.unit.specs.declared.Sound.{Sound}
 use Rattle.unit.specs.declared.Protection.{Protection}
 use Rattle.unit.specs.WellFormed.{wellFormed}
-use Rattle.tag.specs.Calls.{Call, button, accountKey, frame, calls, waits}
+use Rattle.tag.specs.Calls.{newUnit, Call, button, accountKey, frame, calls, waits}
 use Rattle.demands.specs.History.{step}
 use Rattle.demands.specs.Spelled.{keyAtPlace, AllBut, Part, clock, accounts, sound, ringNonce, consent}
-use Rattle.demands.specs.Accepted.{Serves, Silent, windowOf, stopNotice}
+use Rattle.demands.specs.Accepted.{Serves, Silent, Unlent, windowOf, stopNotice}
+
+-- "calibrated power, a whole number from -100 to 20": negsuc n is -(n + 1)
+abbrev pub PowerWithin : ℤ → Type 0
+PowerWithin (pos n) = n ≤ 20
+PowerWithin (negsuc n) = n + 1 ≤ 100
+
+-- "Fresh: no keys, nonce, sound, protection, consent, pairing or identifier; battery 0"; "A fresh unit starts at 0"; "room for absent things
+-- .. zero"
+pub record Fresh (power : ℤ) (components selectable : ℕ) (v : TagUnit) : Type 0 where
+  pub settingsAre : v .settings ≡ record { power = power; components = components; selectable = selectable }
+  pub clockIs : v .clock ≡ record { seconds = 0; tenth = 0 }
+  pub noNonce : v .nonce ≡ record { held = false; live = false; bytes = replicate 8 0 }
+  pub noAccounts : v .accounts ≡ record { count = 0; owner = Owner.Nobody; keys = replicate 80 0 }
+  pub noIdentity : v .identity ≡ record { held = false; bytes = replicate 32 0 }
+  pub silent : Silent v
+  pub unprotected : v .protection ≡ Protection.Off
+  pub unconsented : v .consent ≡ 0
+  pub unpaired : v .pairing ≡ false
+  pub unknown : v .battery ≡ 0
+  pub unlent : Unlent v
 
 -- "A press while ringing stops it .. and gives no consent"
 pub record Hushed (u v : TagUnit) : Type 0 where
@@ -81,6 +103,9 @@ pub record Ticks (u : TagUnit) (room : ℕ) : Type 0 where
   pub small : u .clock .seconds < 4294967296
 
 pub record Events : Type 0 where
+  -- "A new unit checks only 1"
+  pub unitMade : (power : ℤ) (components selectable : ℕ) → PowerWithin power → components ≤ 3 → selectable ≤ 1
+      → (newUnit power components selectable .result ≡ gives []) × Fresh power components selectable (newUnit power components selectable .unit)
   -- "A press while ringing stops it, status 3"; "button notices use the nonce of the accepted ring"
   pub buttonStops : (u : TagUnit) (room mask volume left : ℕ) → wellFormed u ≡ true → 42 ≤ room → u .sound ≡ Sound.Ringing mask volume left
       → Serves (calls button room) u (stopNotice u (u .«ring_nonce») 3) (Hushed u)
