@@ -178,11 +178,11 @@ few : {u : TagUnit} {room : ℕ} → Open u room → u .settings .components ≤
 few {u} ready = lines u (ready .formed) .settings .components
 
 -- A ring and a stop that pass, with whichever tag
-abbrev Passes : TagUnit → List ℕ → List ℕ → Type 0
-Passes u mark a = skips (u .protection) || tagged (ringKey (u .identity .bytes)) (u .nonce .bytes) (requestOf 0x05 12 mark a) ≡ true
+abbrev PassesGuards : TagUnit → List ℕ → List ℕ → Type 0
+PassesGuards u mark a = skips (u .protection) || tagged (ringKey (u .identity .bytes)) (u .nonce .bytes) (requestOf 0x05 12 mark a) ≡ true
 
 ring-judged : (u : TagUnit) (mark : List ℕ) (asked mask timeout volume : ℕ) → u .settings .components ≤ 3
-    → RingLegal (u .settings .components) asked mask timeout volume → Passes u mark (ringBytes asked timeout volume)
+    → RingLegal (u .settings .components) asked mask timeout volume → PassesGuards u mark (ringBytes asked timeout volume)
     → ring (spent u) (requestOf 0x05 12 mark (ringBytes asked timeout volume))
     ≡ accepts (withSound (Sound.Ringing mask (cond (eqb (u .settings .selectable) 0) 0 volume) timeout) (u .nonce .bytes) (spent u))
     (startNotice u (u .nonce .bytes) 0 mask timeout)
@@ -194,7 +194,7 @@ ring-judged u mark asked mask timeout volume low legal passes =
     rw (passes, ring-legal (u .settings) asked mask timeout volume low legal, m .is, timeout-is asked timeout volume, ringing, high)
 
 stop-judged : (u : TagUnit) (mark : List ℕ) (high low volume : ℕ) → u .settings .components ≤ 3 → volume ≤ 3
-    → Passes u mark (0 ∷ high ∷ low ∷ volume ∷ [])
+    → PassesGuards u mark (0 ∷ high ∷ low ∷ volume ∷ [])
     → ring (spent u) (requestOf 0x05 12 mark (0 ∷ high ∷ low ∷ volume ∷ [])) ≡ accepts (silenced (spent u)) (stopNotice u (u .nonce .bytes) 4)
 unfolding ring rung ringNotice signed answerTag derivedKey bigEndian
 stop-judged u mark high low volume few quiet passes = rw (passes, stop-legal (u .settings) high low volume few quiet)

@@ -20,7 +20,7 @@ use Rattle.unit.specs.declared.TagUnit.{TagUnit}
 use Rattle.unit.specs.WellFormed.{wellFormed}
 use Rattle.unit.specs.Change.{spent}
 use Rattle.unit.specs.Outcome.{Outcome, formed, answering}
-use Rattle.authentication.specs.Judgement.{Judgement, tagged, settled}
+use Rattle.authentication.specs.Judgement.{Judgement, tagged, concluded}
 use Rattle.requests.specs.Write.{byId, needsKey, judged, written}
 use Rattle.tag.specs.Calls.{own, guarded, call, act}
 use Rattle.demands.specs.History.{step, writes}
@@ -73,7 +73,7 @@ opened u room o right fits = rw (le-ltb room answerRoom fits, right)
 pub judged-as : {u : TagUnit} {room : ℕ} {j : Judgement} (id size : ℕ) (mark additional : List ℕ) → length mark ≡ 8
     → tagSize + length additional ≡ size → Open u room → sizeLegal id size ≡ true → (ltb id needsKey || u .identity .held) ≡ true
     → byId (spent u) (requestOf id size mark additional) ≡ j
-    → step (writes (bytesOf id size mark additional) room) u ≡ settled (spent u) j
+    → step (writes (bytesOf id size mark additional) room) u ≡ concluded (spent u) j
 unfolding act call guarded own written judged
 judged-as {u} {room} id size mark additional eight sized ready legal there is =
     opened u room (written u (bytesOf id size mark additional)) (ready .formed) (ready .fits)

@@ -18,6 +18,8 @@ pub mod Accepted
 pub mod Events
 pub mod Ruled
 pub mod Beside
+pub mod KeyPlaces
+pub mod Granted
 pub mod Noncing
 pub mod Nonces
 pub mod KeyKept

@@ -1,20 +1,24 @@
 -- Each issue of a nonce authenticates at most one write. From any unit, by the law of what a call does to the nonce (Noncing): a nonce that
 -- is live after a history was issued in it by a read that nothing later spent or replaced, or was live before and the history was quiet;
--- and a quiet history keeps the nonce.
+-- and a quiet history keeps the nonce. What tag an accepted write had is in Granted.
 use Prim.Native.Nat.{ℕ}
-use mathlib.Core.Path.{_≡_, refl, sym, ap, _∙_}
+use mathlib.Core.Path.{_≡_, refl, sym, ap, subst, _∙_}
 use mathlib.Core.Bool.{true, false, false≢true}
 use mathlib.Core.List.{List, [], _∷_}
 use mathlib.Core.Logic.{_⊎_, inl, inr}
 use Rattle.laws.proofs.Flags.{clash}
+use Rattle.laws.proofs.Same.{same-equal}
+use Rattle.wire.specs.Signing.{requestTag}
+use Rattle.wire.specs.Shape.{parsed}
+use Rattle.authentication.specs.Judgement.{tagged}
 use Rattle.unit.specs.declared.TagUnit.{TagUnit}
 use Rattle.unit.specs.declared.Settings.{Settings}
 use Rattle.unit.specs.declared.Nonce.{Nonce}
-use Rattle.unit.specs.Change.{fresh}
+use Rattle.unit.specs.Change.{fresh, spent}
 use Rattle.tag.specs.Calls.{Written, read, write, Act, calls}
 use Rattle.demands.specs.History.{step, after}
-use Rattle.demands.specs.Nonces.{Succeeds, PassesGuards, Issues, issues, Quiet, Issue, Demand2Nonces}
-use Rattle.demands.proofs.Ruled.{accepted-write}
+use Rattle.demands.specs.Nonces.{Succeeds, PassesGuards, passes, Issues, issues, Quiet, Issue, MayTag, parameters, state, keySet, cleared, recovery, ring, soundState, protected, unprotected, Authenticated, tagged as tagged-with, skipped, Demand2Nonces}
+use Rattle.demands.proofs.Granted.{Authorised, signed-by, unasked, admitted}
 use Rattle.demands.proofs.Noncing.{issued, Noncing, issue, spend, keep, noncing}
 use Rattle.demands.proofs.Histories.{after-append}
 
@@ -85,6 +89,63 @@ from-fresh : (s : Settings) (h : List Act) → Source (fresh s) h → (nonce : L
 from-fresh s h (inl found) = found
 from-fresh s h (inr (l, q)) = absurd (false≢true l)
 
+-- The keys are those of the unit before its nonce was spent
+before-spent : {u : TagUnit} {id : ℕ} {key : List ℕ} → MayTag (spent u) id key → MayTag u id key
+before-spent (parameters p below) = parameters p below
+before-spent (state p below) = state p below
+before-spent (keySet o) = keySet o
+before-spent (cleared o) = cleared o
+before-spent recovery = recovery
+before-spent ring = ring
+before-spent soundState = soundState
+before-spent protected = protected
+before-spent unprotected = unprotected
+
+-- The tag that a write was judged by, in the bytes of the write
+authenticated : (u : TagUnit) (w : List ℕ) → Authorised (spent u) (parsed w) → Authenticated u w (u .nonce .bytes)
+unfolding parsed tagged requestTag
+authenticated u w (signed-by key may t) = tagged-with key (before-spent may) (sym (same-equal _ _ t))
+authenticated u w (unasked isRing skip) = skipped isRing skip
+
+accepted-with : (u : TagUnit) (w : Written) (room : ℕ) → Succeeds (calls (write w) room) u → Authenticated u (w .bytes) (u .nonce .bytes)
+accepted-with u w room (answer, r) = authenticated u (w .bytes) (admitted (w .bytes) room u answer r .authorised)
+
+accepted-live : (u : TagUnit) (w : Written) (room : ℕ) → Succeeds (calls (write w) room) u → Live u
+accepted-live u w room (answer, r) = admitted (w .bytes) room u answer r .live
+
+accepted-passes : (u : TagUnit) (w : Written) (room : ℕ) → Succeeds (calls (write w) room) u → PassesGuards (calls (write w) room) u
+accepted-passes u w room (answer, r) = let a = admitted (w .bytes) room u answer r in passes (a .fits) (a .formed)
+
+-- Every accepted write was judged with the nonce of the last issue
+owned : (u : TagUnit) (h : List Act) (w : Written) (room : ℕ) → (after h u .nonce .live ≡ true → (nonce : List ℕ) × Issue u h nonce)
+    → Succeeds (calls (write w) room) (after h u)
+    → (nonce : List ℕ) × Issue u h nonce × Authenticated (after h u) (w .bytes) nonce
+owned u h w room issued accepted =
+    let then = after h u in
+    let found = issued (accepted-live then w room accepted) in
+    let same : then .nonce .bytes ≡ found .0 = ap (λ (n : Nonce). n .bytes) (issue-holds u h (found .0) (found .1)) in
+    (found .0, found .1, subst (λ (n : List ℕ). Authenticated then (w .bytes) n) same (accepted-with then w room accepted))
+
+-- After a write that passed 6 and 2 a live nonce was issued since
+since : (u : TagUnit) (c : Act) (h : List Act) → step c u .unit .nonce .live ≡ false → after h (step c u .unit) .nonce .live ≡ true
+    → (nonce : List ℕ) × Issue (step c u .unit) h nonce
+since u c h spent l = go (source h (step c u .unit) l)
+  where
+    go : Source (step c u .unit) h → (nonce : List ℕ) × Issue (step c u .unit) h nonce
+    go (inl found) = found
+    go (inr (live, q)) = absurd (clash live spent)
+
+separate : (u : TagUnit) (v : Written) (firstRoom : ℕ) (h : List Act) (w : Written) (room : ℕ) → Succeeds (calls (write v) firstRoom) u
+    → Succeeds (calls (write w) room) (after h (step (calls (write v) firstRoom) u .unit))
+    → (nonce : List ℕ)
+    × Issue (step (calls (write v) firstRoom) u .unit) h nonce
+    × Authenticated (after h (step (calls (write v) firstRoom) u .unit)) (w .bytes) nonce
+separate u v firstRoom h w room earlier accepted =
+    let first = calls (write v) firstRoom in
+    owned (step first u .unit) h w room
+    (since u first h (write-spends (noncing first u) (accepted-passes u v firstRoom earlier)))
+    accepted
+
 pub nonces : Demand2Nonces
 unfolding after
 nonces =
@@ -92,12 +153,14 @@ nonces =
       live = λ s h l. from-fresh s h (source h (fresh s) l);
       issued = λ s h nonce i. ap (λ (n : Nonce). n .live) (issue-holds (fresh s) h nonce i);
       whose = λ s h nonce i. ap (λ (n : Nonce). n .bytes) (issue-holds (fresh s) h nonce i);
-      own =
-          λ s h w room accepted.
-          let found = from-fresh s h (source h (fresh s) (accepted-write w room (after h (fresh s)) (accepted .0) (accepted .1) .live)) in
-          (found .0, found .1, ap (λ (n : Nonce). n .bytes) (issue-holds (fresh s) h (found .0) (found .1)));
+      own = λ s h w room accepted. owned (fresh s) h w room (λ l. from-fresh s h (source h (fresh s) l)) accepted;
       once =
           λ s h w room p l.
           clash (sym (ap (λ (v : TagUnit). v .nonce .live) (after-append h (calls (write w) room ∷ []) (fresh s))) ∙ l)
           (write-spends (noncing (calls (write w) room) (after h (fresh s))) p);
+      between =
+          λ s g v firstRoom h w room earlier accepted.
+          let first = calls (write v) firstRoom in
+          rw (after-append g (first ∷ []) (fresh s), after-append g (first ∷ h) (fresh s))
+          (separate (after g (fresh s)) v firstRoom h w room earlier (rw (after-append g (first ∷ h) (fresh s)) at accepted));
     }

@@ -8,7 +8,7 @@ use Rattle.unit.specs.declared.TagUnit.{TagUnit}
 use Rattle.unit.specs.WellFormed.{wellFormed}
 use Rattle.unit.specs.Change.{spent}
 use Rattle.unit.specs.Outcome.{Outcome, refusing}
-use Rattle.authentication.specs.Judgement.{Judgement, accepts, rejects, settled}
+use Rattle.authentication.specs.Judgement.{Judgement, accepts, rejects, concluded}
 use Rattle.requests.specs.Write.{judged, written}
 use Rattle.tag.specs.Calls.{own, guarded, call, act}
 use Rattle.demands.specs.History.{step, writes}
@@ -29,7 +29,7 @@ only-spends u =
 
 -- The write of these bytes
 module _ (u : TagUnit) (room : ℕ) (w : List ℕ) (n : ℕ) (right : wellFormed u ≡ true) (fits : 42 ≤ room) where
-  step-is : step (writes w room) u ≡ settled (spent u) (judged u w)
+  step-is : step (writes w room) u ≡ concluded (spent u) (judged u w)
   unfolding act call guarded own written
   step-is = opened u room (written u w) right fits
 
@@ -44,7 +44,7 @@ module _ (u : TagUnit) (room : ℕ) (w : List ℕ) (n : ℕ) (right : wellFormed
   pub only-for-a-reason : step (writes w room) u .result ≡ refuses n → Reason u w n
   only-for-a-reason e = reason-found u w lines-of n (go (judged u w) (sym (ap (λ (o : Outcome). o .result) step-is) ∙ e))
     where
-      go : (j : Judgement) → settled (spent u) j .result ≡ refuses n → j ≡ rejects n
+      go : (j : Judgement) → concluded (spent u) j .result ≡ refuses n → j ≡ rejects n
       go (accepts v answer) h = cc
       go (rejects m) h = cc
 

@@ -1,0 +1,248 @@
+-- What an accepted write did to sound and consent, what its answer begins with, and which key tagged it. Each handler is gone through once,
+-- check by check.
+use Prim.Native.Nat.{ℕ, _≤_, _<_}
+use mathlib.Core.Path.{_≡_, refl, sym, ap, _∙_}
+use mathlib.Core.Bool.{Bool, true, false, cond, _&&_, _||_}
+use mathlib.Core.List.{List}
+use mathlib.Core.Logic.{_⊎_, inl, inr}
+use mathlib.Core.Option.{Option, some, none}
+use native.Mathlib.Omega.{arith}
+use lib.Dec.{eqb, leb, ltb}
+use lib.ListN.{getD}
+use borrow.Author.Tests.{eqb-true}
+use Rattle.laws.specs.Answer.{gives}
+use Rattle.laws.proofs.Flags.{and-left, or-cases}
+use Rattle.wire.specs.Shape.{Request, parsed, shapeLegal}
+use Rattle.wire.specs.Signing.{derivedKey, recoveryKey, ringKey, protectionKey, signed}
+use Rattle.unit.specs.declared.TagUnit.{TagUnit}
+use Rattle.unit.specs.declared.Sound.{Sound}
+use Rattle.unit.specs.declared.Protection.{Protection}
+use Rattle.unit.specs.WellFormed.{wellFormed, heldKeys, ownerKey}
+use Rattle.unit.specs.Change.{spent, withSound}
+use Rattle.unit.specs.Outcome.{Outcome, giving, refusing}
+use Rattle.unit.proofs.Lines.{held-count}
+use Rattle.unit.proofs.Kept.{spent-kept}
+use Rattle.authentication.specs.Judgement.{Judgement, accepts, rejects, under, usedKey, onlyIf, signedByOwner, tagged, proves, lastNonce, concluded}
+use Rattle.provisioning.specs.Provisioning.{readParameters, readState, setKey, mayReplace, clearKey, cleared, recoverKey}
+use Rattle.ringing.specs.Ringing.{skips, ringLegal, ringMask, heldVolume, askedTimeout, ring, rung, readSound}
+use Rattle.ringing.specs.Protecting.{flagOf, protect, unprotect}
+use Rattle.requests.specs.Write.{byId, keyThere, judged, written}
+use Rattle.tag.specs.Calls.{own}
+use Rattle.demands.specs.Spelled.{keyAtPlace, OwnedWith}
+use Rattle.demands.specs.History.{step, writes}
+use Rattle.demands.specs.Nonces.{MayTag, parameters, state, keySet, cleared as mayClear, recovery, ring as mayRing, soundState, protected, unprotected}
+use Rattle.demands.proofs.Choices.{tested}
+use Rattle.demands.proofs.Guards.{Met, barred, passed, met, not-both}
+use Rattle.demands.proofs.KeyPlaces.{FoundAt, found-at, held-at, owned-with}
+
+-- the tag is that of a key that may tag such a write, or none was asked
+pub data Authorised (u : TagUnit) (q : Request) : Type 0 where
+  signed-by : (key : List ℕ) → MayTag u (q .id) key → tagged key (lastNonce u) q ≡ true → Authorised u q
+  unasked : q .id ≡ 0x05 → u .protection ≡ Protection.On true → Authorised u q
+
+-- the same sound with its nonce, identity key and consent
+pub record Left (u v : TagUnit) : Type 0 where
+  pub sound : v .sound ≡ u .sound
+  pub ringNonce : v .«ring_nonce» ≡ u .«ring_nonce»
+  pub identity : v .identity ≡ u .identity
+  pub consent : v .consent ≡ u .consent
+
+pub data Effect (u : TagUnit) (q : Request) (v : TagUnit) (answer : List ℕ) : Type 0 where
+  left : getD answer 0 0 ≡ q .id → (q .id ≡ 0x05 → ⊥) → Left u v → Effect u q v answer
+  rings : q .id ≡ 0x05 → ringLegal (u .settings) (q .additional) ≡ true
+      → v
+      ≡ withSound
+      (Sound.Ringing (ringMask (u .settings) (q .additional)) (heldVolume (u .settings) (q .additional)) (askedTimeout (q .additional)))
+      (lastNonce u) u
+      → Effect u q v answer
+  stops : q .id ≡ 0x05 → ringLegal (u .settings) (q .additional) ≡ true → ringMask (u .settings) (q .additional) ≡ 0 → v .consent ≡ u .consent
+      → Effect u q v answer
+  rekeys : q .id ≡ 0x02 → v .consent ≡ u .consent → Effect u q v answer
+  clears : q .id ≡ 0x03 → v .consent ≡ 0 → Effect u q v answer
+
+-- How the request q was judged on the unit u
+pub data Judged (u : TagUnit) (q : Request) : Judgement → Type 0 where
+  refused : (n : ℕ) → Judged u q (rejects n)
+  granted : {v : TagUnit} {answer : List ℕ} → Authorised u q → Effect u q v answer → Judged u q (accepts v answer)
+
+unchanged : (u : TagUnit) → Left u u
+unchanged u = record { sound = refl; ringNonce = refl; identity = refl; consent = refl }
+
+-- the owner's key where it signed
+signed-owner : (p : List ℕ → Bool) (o : Option (List ℕ)) (key : List ℕ) → onlyIf p o ≡ some key → (o ≡ some key) × (p key ≡ true)
+signed-owner p none key e = let z : _≡_ {A = ℕ} 0 1 = cc in absurd (omega arith)
+signed-owner p (some k) key e = go (p k) refl e
+  where
+    go : (b : Bool) → p k ≡ b → cond b (some k) none ≡ some key → (some k ≡ some key) × (p key ≡ true)
+    go true t h = let same : k ≡ key = cc in (h, rw same at t)
+    go false t h = let z : _≡_ {A = ℕ} 0 1 = cc in absurd (omega arith)
+
+skips-on : (p : Protection) → skips p ≡ true → p ≡ Protection.On true
+skips-on Protection.Off e = let z : _≡_ {A = ℕ} 0 1 = cc in absurd (omega arith)
+skips-on (Protection.On skip) e = rw e
+
+module _ (u : TagUnit) (w : wellFormed u ≡ true) (q : Request) where
+  abbrev J : Judgement → Type 0
+  J j = Judged u q j
+
+  checked : (ok : Bool) (n : ℕ) {next : Judgement} → (ok ≡ true → J next) → J (cond ok next (rejects n))
+  checked ok n next = tested J ok next (λ e. refused n)
+
+  with-key : (o : Option (List ℕ)) (g : List ℕ → Judgement) → ((key : List ℕ) → o ≡ some key → J (g key)) → J (under o g)
+  with-key (some key) g h = h key refl
+  with-key none g h = refused 0x80
+
+  -- an account key that was used is one of those held
+  by-account : (key : List ℕ) → usedKey u q ≡ some key → ((p : ℕ) → p < u .accounts .count → MayTag u (q .id) (keyAtPlace u p)) → Authorised u q
+  unfolding usedKey
+  by-account key e may =
+      let f = found-at (λ k. tagged k (lastNonce u) q) (heldKeys (u .accounts)) key e in
+      let below : f .place < u .accounts .count = omega (arith, f .below, held-count (u .accounts)) in
+      let here : keyAtPlace u (f .place) ≡ key = sym (held-at u (f .place) below) ∙ f .there in
+      signed-by key (rw here at (may (f .place) below)) (f .passes)
+
+  by-owner : (key : List ℕ) → signedByOwner u q ≡ some key → (OwnedWith u key → MayTag u (q .id) key) → Authorised u q
+  unfolding signedByOwner
+  by-owner key e may =
+      let s = signed-owner (λ k. tagged k (lastNonce u) q) (ownerKey (u .accounts)) key e in
+      signed-by key (may (owned-with u w key (s .0))) (s .1)
+
+  parameters-judged : q .id ≡ 0x00 → J (readParameters u q)
+  unfolding readParameters signed
+  parameters-judged e =
+      with-key (usedKey u q) _
+      (λ key f. granted (by-account key f (λ p below. rw e (parameters p below))) (left refl (λ (z : q .id ≡ 0x05). omega arith) (unchanged u)))
+
+  state-judged : q .id ≡ 0x01 → J (readState u q)
+  unfolding readState signed
+  state-judged e =
+      with-key (usedKey u q) _
+      (λ key f.
+      granted (by-account key f (λ p below. rw e (state p below)))
+      (left refl (λ (z : q .id ≡ 0x05). omega arith) (record { sound = refl; ringNonce = refl; identity = refl; consent = refl })))
+
+  set-judged : q .id ≡ 0x02 → J (setKey u q)
+  unfolding setKey
+  set-judged e =
+      with-key (signedByOwner u q) _
+      (λ key f. checked (mayReplace u q) 0x80 (λ ok. granted (by-owner key f (λ o. rw e (keySet o))) (rekeys e refl)))
+
+  clear-judged : q .id ≡ 0x03 → J (clearKey u q)
+  unfolding clearKey cleared
+  clear-judged e =
+      with-key (signedByOwner u q) _
+      (λ key f. checked (proves u (q .additional)) 0x80 (λ ok. granted (by-owner key f (λ o. rw e (mayClear o))) (clears e refl)))
+
+  recover-judged : q .id ≡ 0x04 → J (recoverKey u q)
+  unfolding recoverKey signed derivedKey
+  recover-judged e =
+      with-key (ownerKey (u .accounts)) _
+      (λ key o.
+      checked (tagged (recoveryKey (u .identity .bytes)) (lastNonce u) q) 0x80
+      (λ t.
+      checked (ltb 0 (u .consent) || u .pairing) 0x82
+      (λ ok.
+      granted (signed-by (recoveryKey (u .identity .bytes)) (rw e recovery) t) (left refl (λ (z : q .id ≡ 0x05). omega arith) (unchanged u)))))
+
+  by-ring-key : q .id ≡ 0x05 → skips (u .protection) || tagged (ringKey (u .identity .bytes)) (lastNonce u) q ≡ true → Authorised u q
+  unfolding derivedKey
+  by-ring-key e t = go (or-cases (skips (u .protection)) _ t)
+    where
+      go : (skips (u .protection) ≡ true) ⊎ (tagged (ringKey (u .identity .bytes)) (lastNonce u) q ≡ true) → Authorised u q
+      go (inl s) = unasked e (skips-on (u .protection) s)
+      go (inr s) = signed-by (ringKey (u .identity .bytes)) (rw e mayRing) s
+
+  ring-judged : q .id ≡ 0x05 → J (ring u q)
+  unfolding ring rung
+  ring-judged e =
+      checked (skips (u .protection) || tagged (ringKey (u .identity .bytes)) (lastNonce u) q) 0x80
+      (λ t.
+      checked (ringLegal (u .settings) (q .additional)) 0x81
+      (λ legal.
+      tested J (eqb (ringMask (u .settings) (q .additional)) 0)
+      (λ none. granted (by-ring-key e t) (stops e legal (eqb-true (ringMask (u .settings) (q .additional)) 0 none) refl))
+      (λ some. granted (by-ring-key e t) (rings e legal refl))))
+
+  sound-judged : q .id ≡ 0x06 → J (readSound u q)
+  unfolding readSound signed derivedKey
+  sound-judged e =
+      checked (tagged (ringKey (u .identity .bytes)) (lastNonce u) q) 0x80
+      (λ t. granted (signed-by (ringKey (u .identity .bytes)) (rw e soundState) t) (left refl (λ (z : q .id ≡ 0x05). omega arith) (unchanged u)))
+
+  protect-judged : q .id ≡ 0x07 → J (protect u q)
+  unfolding protect signed derivedKey
+  protect-judged e =
+      checked (tagged (protectionKey (u .identity .bytes)) (lastNonce u) q) 0x80
+      (λ t.
+      checked (leb (flagOf (q .additional)) 1) 0x81
+      (λ ok.
+      granted (signed-by (protectionKey (u .identity .bytes)) (rw e protected) t)
+      (left refl (λ (z : q .id ≡ 0x05). omega arith) (record { sound = refl; ringNonce = refl; identity = refl; consent = refl }))))
+
+  unprotect-judged : q .id ≡ 0x08 → J (unprotect u q)
+  unfolding unprotect signed derivedKey
+  unprotect-judged e =
+      checked (tagged (protectionKey (u .identity .bytes)) (lastNonce u) q && proves u (q .additional)) 0x80
+      (λ t.
+      granted (signed-by (protectionKey (u .identity .bytes)) (rw e unprotected) (and-left _ _ t))
+      (left refl (λ (z : q .id ≡ 0x05). omega arith) (record { sound = refl; ringNonce = refl; identity = refl; consent = refl })))
+
+  pub judged-so : J (byId u q)
+  unfolding byId
+  judged-so =
+      tested J _ (λ e. parameters-judged (eqb-true (q .id) 0 e)) (λ _.
+      tested J _ (λ e. state-judged (eqb-true (q .id) 1 e)) (λ _.
+      tested J _ (λ e. set-judged (eqb-true (q .id) 2 e)) (λ _.
+      tested J _ (λ e. clear-judged (eqb-true (q .id) 3 e)) (λ _.
+      tested J _ (λ e. recover-judged (eqb-true (q .id) 4 e)) (λ _.
+      tested J _ (λ e. ring-judged (eqb-true (q .id) 5 e)) (λ _.
+      tested J _ (λ e. sound-judged (eqb-true (q .id) 6 e)) (λ _.
+      tested J _ (λ e. protect-judged (eqb-true (q .id) 7 e)) (λ _.
+      tested J _ (λ e. unprotect-judged (eqb-true (q .id) 8 e)) (λ _. refused 0x81)))))))))
+
+-- How a write that passed 6 and 2 ended
+pub data Written (u : TagUnit) (w : List ℕ) : Outcome → Type 0 where
+  turned : (n : ℕ) → Written u w (refusing n (spent u))
+  served : {v : TagUnit} {answer : List ℕ} → shapeLegal w ≡ true → u .nonce .live ≡ true → Authorised (spent u) (parsed w)
+      → Effect (spent u) (parsed w) v answer → Written u w (giving answer v)
+
+module _ (u : TagUnit) (w : List ℕ) where
+  concluded-so : {j : Judgement} → shapeLegal w ≡ true → u .nonce .live ≡ true → Judged (spent u) (parsed w) j → Written u w (concluded (spent u) j)
+  concluded-so s l (refused n) = turned n
+  concluded-so s l (granted a e) = served s l a e
+
+  pub written-so : wellFormed u ≡ true → Written u w (written u w)
+  unfolding written judged
+  written-so formed =
+      let P : Judgement → Type 0 = λ j. Written u w (concluded (spent u) j) in
+      tested P (shapeLegal w)
+      (λ s.
+      tested P (u .nonce .live)
+      (λ l. tested P (keyThere u (parsed w)) (λ k. concluded-so s l (judged-so (spent u) (spent-kept u formed) (parsed w))) (λ k. turned 0x80))
+      (λ l. turned 0x80))
+      (λ s. turned 0x81)
+
+-- An accepted write
+pub record Admitted (u : TagUnit) (w : List ℕ) (room : ℕ) (v : TagUnit) (answer : List ℕ) : Type 0 where
+  pub fits : 42 ≤ room
+  pub formed : wellFormed u ≡ true
+  pub legal : shapeLegal w ≡ true
+  pub live : u .nonce .live ≡ true
+  pub authorised : Authorised (spent u) (parsed w)
+  pub effect : Effect (spent u) (parsed w) v answer
+
+module _ (w : List ℕ) (room : ℕ) (u : TagUnit) (answer : List ℕ) where
+  from-written : {o : Outcome} → 42 ≤ room → wellFormed u ≡ true → step (writes w room) u ≡ o → Written u w o → o .result ≡ gives answer
+      → Admitted u w room (step (writes w room) u .unit) answer
+  from-written fits formed e (turned n) r = absurd (let z : _≡_ {A = ℕ} 0 1 = cc in omega arith)
+  from-written fits formed e (served {answer = a} s l auth eff) r =
+      let given : a ≡ answer = cc in
+      record { fits = fits; formed = formed; legal = s; live = l; authorised = auth; effect = rw e (rw given at eff) }
+
+  pub admitted : step (writes w room) u .result ≡ gives answer → Admitted u w room (step (writes w room) u .unit) answer
+  unfolding own
+  admitted r = go (met (writes w room) u)
+    where
+      go : Met (writes w room) u → Admitted u w room (step (writes w room) u .unit) answer
+      go (barred n e bars) = absurd (not-both (writes w room) u e (answer, r))
+      go (passed fits formed e) = from-written fits formed e (written-so u w formed) (sym (ap (λ (o : Outcome). o .result) e) ∙ r)
