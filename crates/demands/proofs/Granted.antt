@@ -33,7 +33,7 @@ use Rattle.demands.specs.History.{step, writes}
 use Rattle.demands.specs.Nonces.{MayTag, parameters, state, keySet, cleared as mayClear, recovery, ring as mayRing, soundState, protected, unprotected}
 use Rattle.demands.proofs.Choices.{tested}
 use Rattle.demands.proofs.Guards.{Met, barred, passed, met, not-both}
-use Rattle.demands.proofs.KeyPlaces.{FoundAt, found-at, held-at, owned-with}
+use Rattle.demands.proofs.KeyPlaces.{found-at, held-at, owned-with}
 
 -- the tag is that of a key that may tag such a write, or none was asked
 pub data Authorised (u : TagUnit) (q : Request) : Type 0 where
@@ -48,7 +48,7 @@ pub record Left (u v : TagUnit) : Type 0 where
   pub consent : v .consent ≡ u .consent
 
 pub data Effect (u : TagUnit) (q : Request) (v : TagUnit) (answer : List ℕ) : Type 0 where
-  left : getD answer 0 0 ≡ q .id → (q .id ≡ 0x05 → ⊥) → Left u v → Effect u q v answer
+  apart : getD answer 0 0 ≡ q .id → (q .id ≡ 0x05 → ⊥) → Left u v → Effect u q v answer
   rings : q .id ≡ 0x05 → ringLegal (u .settings) (q .additional) ≡ true
       → v
       ≡ withSound
@@ -111,7 +111,7 @@ module _ (u : TagUnit) (w : wellFormed u ≡ true) (q : Request) where
   unfolding readParameters signed
   parameters-judged e =
       with-key (usedKey u q) _
-      (λ key f. granted (by-account key f (λ p below. rw e (parameters p below))) (left refl (λ (z : q .id ≡ 0x05). omega arith) (unchanged u)))
+      (λ key f. granted (by-account key f (λ p below. rw e (parameters p below))) (apart refl (λ (z : q .id ≡ 0x05). omega arith) (unchanged u)))
 
   state-judged : q .id ≡ 0x01 → J (readState u q)
   unfolding readState signed
@@ -119,7 +119,7 @@ module _ (u : TagUnit) (w : wellFormed u ≡ true) (q : Request) where
       with-key (usedKey u q) _
       (λ key f.
       granted (by-account key f (λ p below. rw e (state p below)))
-      (left refl (λ (z : q .id ≡ 0x05). omega arith) (record { sound = refl; ringNonce = refl; identity = refl; consent = refl })))
+      (apart refl (λ (z : q .id ≡ 0x05). omega arith) (record { sound = refl; ringNonce = refl; identity = refl; consent = refl })))
 
   set-judged : q .id ≡ 0x02 → J (setKey u q)
   unfolding setKey
@@ -142,7 +142,7 @@ module _ (u : TagUnit) (w : wellFormed u ≡ true) (q : Request) where
       (λ t.
       checked (ltb 0 (u .consent) || u .pairing) 0x82
       (λ ok.
-      granted (signed-by (recoveryKey (u .identity .bytes)) (rw e recovery) t) (left refl (λ (z : q .id ≡ 0x05). omega arith) (unchanged u)))))
+      granted (signed-by (recoveryKey (u .identity .bytes)) (rw e recovery) t) (apart refl (λ (z : q .id ≡ 0x05). omega arith) (unchanged u)))))
 
   by-ring-key : q .id ≡ 0x05 → skips (u .protection) || tagged (ringKey (u .identity .bytes)) (lastNonce u) q ≡ true → Authorised u q
   unfolding derivedKey
@@ -167,7 +167,7 @@ module _ (u : TagUnit) (w : wellFormed u ≡ true) (q : Request) where
   unfolding readSound signed derivedKey
   sound-judged e =
       checked (tagged (ringKey (u .identity .bytes)) (lastNonce u) q) 0x80
-      (λ t. granted (signed-by (ringKey (u .identity .bytes)) (rw e soundState) t) (left refl (λ (z : q .id ≡ 0x05). omega arith) (unchanged u)))
+      (λ t. granted (signed-by (ringKey (u .identity .bytes)) (rw e soundState) t) (apart refl (λ (z : q .id ≡ 0x05). omega arith) (unchanged u)))
 
   protect-judged : q .id ≡ 0x07 → J (protect u q)
   unfolding protect signed derivedKey
@@ -177,7 +177,7 @@ module _ (u : TagUnit) (w : wellFormed u ≡ true) (q : Request) where
       checked (leb (flagOf (q .additional)) 1) 0x81
       (λ ok.
       granted (signed-by (protectionKey (u .identity .bytes)) (rw e protected) t)
-      (left refl (λ (z : q .id ≡ 0x05). omega arith) (record { sound = refl; ringNonce = refl; identity = refl; consent = refl }))))
+      (apart refl (λ (z : q .id ≡ 0x05). omega arith) (record { sound = refl; ringNonce = refl; identity = refl; consent = refl }))))
 
   unprotect-judged : q .id ≡ 0x08 → J (unprotect u q)
   unfolding unprotect signed derivedKey
@@ -185,7 +185,7 @@ module _ (u : TagUnit) (w : wellFormed u ≡ true) (q : Request) where
       checked (tagged (protectionKey (u .identity .bytes)) (lastNonce u) q && proves u (q .additional)) 0x80
       (λ t.
       granted (signed-by (protectionKey (u .identity .bytes)) (rw e unprotected) (and-left _ _ t))
-      (left refl (λ (z : q .id ≡ 0x05). omega arith) (record { sound = refl; ringNonce = refl; identity = refl; consent = refl })))
+      (apart refl (λ (z : q .id ≡ 0x05). omega arith) (record { sound = refl; ringNonce = refl; identity = refl; consent = refl })))
 
   pub judged-so : J (byId u q)
   unfolding byId

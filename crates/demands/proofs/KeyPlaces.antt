@@ -3,7 +3,7 @@ use Prim.Native.Nat.{ℕ, suc, _*_, _<_}
 use mathlib.Core.Path.{_≡_, refl, sym, ap, _∙_}
 use mathlib.Core.Bool.{Bool, true, false, cond}
 use mathlib.Core.List.{List, [], _∷_}
-use mathlib.Core.Option.{Option, some, none}
+use mathlib.Core.Option.{some}
 use native.Mathlib.Omega.{arith}
 use lib.ListN.{length, getD, take, drop}
 use Rattle.tables.specs.Rows.{firstThat}
@@ -11,7 +11,7 @@ use Rattle.tables.proofs.Rows.{row-at}
 use Rattle.unit.specs.declared.TagUnit.{TagUnit}
 use Rattle.unit.specs.declared.Owner.{Owner}
 use Rattle.unit.specs.WellFormed.{wellFormed, heldKeys, rowOf, ownerKey}
-use Rattle.unit.proofs.Lines.{lines, owner-held, held-count}
+use Rattle.unit.proofs.Lines.{lines, owner-held}
 use Rattle.demands.specs.Spelled.{keyAtPlace, OwnedWith}
 
 -- the first row that passes a test has a place, and passes it

@@ -4,6 +4,7 @@ pub mod Examples
 pub mod Guards
 pub mod Ends
 pub mod Tenths
+pub mod RingTenths
 pub mod Histories
 pub mod OfBytes
 pub mod HeldKeys
@@ -20,8 +21,12 @@ pub mod Ruled
 pub mod Beside
 pub mod KeyPlaces
 pub mod Granted
+pub mod Meanwhile
 pub mod Noncing
 pub mod Nonces
+pub mod RingStarts
+pub mod RingRuns
+pub mod RingLasts
 pub mod KeyKept
 pub mod KeyBytes
 pub mod Blocks

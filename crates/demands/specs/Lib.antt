@@ -10,5 +10,7 @@ pub mod Events
 pub mod Nonces
 pub mod Recovery
 pub mod Time
+pub mod Among
+pub mod RingLasts
 pub mod Examples
 pub mod Example

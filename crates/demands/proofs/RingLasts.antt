@@ -1,0 +1,112 @@
+-- A ring lasts as long as it was asked for: the accepted 0x05 starts it (RingStarts), and the list goes on from there (RingRuns). A run from a
+-- fresh unit comes to the world after its first part, and goes on from that.
+use Prim.Native.Nat.{ℕ}
+use mathlib.Core.Path.{_≡_, refl, sym, ap, subst, _∙_}
+use mathlib.Core.List.{List, [], _∷_, _++_}
+use Rattle.unit.specs.declared.TagUnit.{TagUnit}
+use Rattle.unit.specs.declared.Settings.{Settings}
+use Rattle.unit.specs.declared.Identity.{Identity}
+use Rattle.unit.specs.Change.{fresh}
+use Rattle.unit.proofs.Lines.{lines, ring-held}
+use Rattle.tag.specs.Calls.{Act}
+use Rattle.demands.specs.History.{step, after, writes}
+use Rattle.demands.specs.Nonces.{Issue}
+use Rattle.demands.specs.Time.{World, start, slept, ran, runs}
+use Rattle.demands.specs.Among.{NoneIn, tenthsIn}
+use Rattle.demands.specs.RingLasts.{Starts, askedIn, Disturbs, Lasts, RingLasts}
+use Rattle.demands.proofs.Histories.{after-append}
+use Rattle.demands.proofs.Nonces.{nonces}
+use Rattle.demands.proofs.RingTenths.{silent-call, ringing-call, ending-call}
+use Rattle.demands.proofs.Meanwhile.{time-passes}
+use Rattle.demands.proofs.RingStarts.{begun, start-formed}
+use Rattle.demands.proofs.RingRuns.{ran-unit, next-formed, ring-run}
+
+-- From whatever a run has come to
+lasting : (w : World) (bytes : List ℕ) (room : ℕ) (l : List Act) → Starts bytes room (w .unit)
+    → NoneIn Disturbs l (step (writes bytes room) (w .unit) .unit)
+    → Lasts (askedIn bytes) (w .unit .identity .bytes) (w .unit .nonce .bytes) (tenthsIn l)
+    (runs slept (writes bytes room ∷ []) w)
+    (runs slept (writes bytes room ∷ l) w)
+unfolding runs
+lasting w bytes room l s free =
+    let a = writes bytes room in
+    let v = ran slept a w in
+    let unit = ran-unit a w in
+    let b = begun (w .unit) bytes room s in
+    let ringing = ap (λ (x : TagUnit). x .sound) unit ∙ b .sounds in
+    let g =
+    ring-run (b .mask) (b .volume) (w .unit .identity .bytes) (w .unit .nonce .bytes) l v (askedIn bytes)
+    (next-formed a w (start-formed (w .unit) bytes room s))
+    (record {
+      ringing = ringing;
+      key = ap (λ (x : TagUnit). x .identity .bytes) unit ∙ ap (λ (x : Identity). x .bytes) (b .identity);
+      tagged = ap (λ (x : TagUnit). x .«ring_nonce») unit ∙ b .nonce;
+    })
+    (subst (λ (x : TagUnit). NoneIn Disturbs l x) (sym unit) free) in
+    record {
+      mask = b .mask;
+      volume = b .volume;
+      begun = ringing;
+      onSound = g .onSound;
+      onNonce = g .onNonce;
+      onNotices = g .onNotices;
+      overSound = g .overSound;
+      overNonce = g .overNonce;
+      overNotices = g .overNotices;
+    }
+
+-- Runs in two parts, and their units
+runs-append : (g h : List Act) (w : World) → runs slept (g ++ h) w ≡ runs slept h (runs slept g w)
+unfolding runs
+runs-append [] h w = refl
+runs-append (a ∷ g) h w = runs-append g h (ran slept a w)
+
+runs-unit : (h : List Act) (w : World) → runs slept h w .unit ≡ after h (w .unit)
+unfolding runs after
+runs-unit [] w = refl
+runs-unit (a ∷ h) w = runs-unit h (ran slept a w) ∙ ap (after h) (ran-unit a w)
+
+-- the same ring, of equal keys, nonces and worlds
+same-ring : {t n : ℕ} {identity i nonce m : List ℕ} {v x z y : World} → identity ≡ i → nonce ≡ m → v ≡ x → z ≡ y → Lasts t identity nonce n v z → Lasts t i m n x y
+same-ring {t} {n} {identity} {i} {nonce} {m} {v} {x} {z} {y} p q r s l =
+    subst (λ (d : World). Lasts t i m n x d) s
+    (subst (λ (c : World). Lasts t i m n c z) r
+    (subst (λ (b : List ℕ). Lasts t i b n v z) q (subst (λ (a : List ℕ). Lasts t a nonce n v z) p l)))
+
+as-read : (s : Settings) (h : List Act) (bytes : List ℕ) (room : ℕ) (l : List Act) → Starts bytes room (after h (fresh s))
+    → NoneIn Disturbs l (after (h ++ (writes bytes room ∷ [])) (fresh s))
+    → (nonce : List ℕ)
+    × Issue (fresh s) h nonce
+    × Lasts (askedIn bytes) (after h (fresh s) .identity .bytes) nonce (tenthsIn l)
+    (runs slept (h ++ (writes bytes room ∷ [])) (start (fresh s)))
+    (runs slept (h ++ (writes bytes room ∷ l)) (start (fresh s)))
+unfolding after
+as-read s h bytes room l starts free =
+    let a = writes bytes room in
+    let w = runs slept h (start (fresh s)) in
+    let unit : w .unit ≡ after h (fresh s) = runs-unit h (start (fresh s)) in
+    let found = nonces .own s h (record { bytes = bytes }) room (starts .accepted) in
+    let free-there : NoneIn Disturbs l (step a (after h (fresh s)) .unit)
+    = subst (λ (x : TagUnit). NoneIn Disturbs l x) (after-append h (a ∷ []) (fresh s)) free in
+    let ring =
+    lasting w bytes room l (subst (λ (x : TagUnit). Starts bytes room x) (sym unit) starts)
+    (subst (λ (x : TagUnit). NoneIn Disturbs l (step a x .unit)) (sym unit) free-there) in (
+      found .0,
+      found .1,
+      same-ring (ap (λ (x : TagUnit). x .identity .bytes) unit)
+          (ap (λ (x : TagUnit). x .nonce .bytes) unit ∙ nonces .whose s h (found .0) (found .1))
+          (sym (runs-append h (a ∷ []) (start (fresh s))))
+          (sym (runs-append h (a ∷ l) (start (fresh s))))
+          ring,
+    )
+
+pub ring-lasts : RingLasts
+ring-lasts =
+    record {
+      on = λ u mask volume left n room w fits e h. rw (time-passes n room u w fits) (ringing-call n u e h);
+      over = λ u mask volume left n room w fits e h.
+          rw (time-passes n room u w fits) (ending-call n u e (ring-held (lines u w) e .least) h);
+      silent = λ u n room w fits e. rw (time-passes n room u w fits) (silent-call n u e);
+      lasts = lasting;
+      asRead = as-read;
+    }

@@ -1,0 +1,91 @@
+-- An accepted 0x05 whose mask byte is not 0 starts a ring, with the tenths that its two bytes say, the nonce that the unit had and the key
+-- that it has.
+use Prim.Native.Nat.{ℕ, _+_, _*_, _≤_}
+use mathlib.Core.Path.{_≡_, refl, sym, ap, _∙_}
+use mathlib.Core.Bool.{Bool, true, false, not}
+use mathlib.Core.List.{List, [], _∷_}
+use native.Mathlib.Omega.{arith}
+use lib.Dec.{eqb, leb}
+use lib.ListN.{length, getD, take, drop, length-drop}
+use lib.Seq.{getD-drop}
+use borrow.Author.Tests.{eqb-true, eq-eqb}
+use Rattle.laws.specs.Bytes.{number, numberAfter}
+use Rattle.laws.proofs.Flags.{and-left, and-right, or-false, clash}
+use Rattle.wire.specs.Shape.{parsed, shapeLegal, sizeLegal, legalSizes, oneOf}
+use Rattle.unit.specs.declared.TagUnit.{TagUnit}
+use Rattle.unit.specs.declared.Settings.{Settings}
+use Rattle.unit.specs.declared.Sound.{Sound}
+use Rattle.unit.specs.WellFormed.{wellFormed}
+use Rattle.unit.specs.Ringable.{ringable, inside}
+use Rattle.unit.specs.Change.{spent}
+use Rattle.ringing.specs.Ringing.{ringLegal, ringMask, heldVolume, askedMask, askedTimeout, allOfNone, wholeMask}
+use Rattle.demands.specs.History.{step, writes}
+use Rattle.demands.specs.RingLasts.{Starts, askedIn}
+use Rattle.demands.proofs.Granted.{Effect, apart, rings, stops, rekeys, clears, admitted}
+
+-- a ring that this unit has begun: the nonce and the key are those of the unit before
+pub record Begun (u v : TagUnit) (t : ℕ) : Type 0 where
+  pub mask : ℕ
+  pub volume : ℕ
+  pub sounds : v .sound ≡ Sound.Ringing mask volume t
+  pub nonce : v .«ring_nonce» ≡ u .nonce .bytes
+  pub identity : v .identity ≡ u .identity
+
+-- the shape of a 0x05 is fourteen bytes
+ring-long : (w : List ℕ) → shapeLegal w ≡ true → getD w 0 0 ≡ 0x05 → length w ≡ 14
+unfolding shapeLegal sizeLegal legalSizes oneOf
+ring-long w legal id =
+    let rest = and-right (leb 2 (length w)) _ legal in
+    let sizes = rw id at (and-left (sizeLegal (getD w 0 0) (getD w 1 0)) (eqb (length w) (getD w 1 0 + 2)) rest) in
+    let size : getD w 1 0 ≡ 12 = eqb-true (getD w 1 0) 12 (sym (or-false _) ∙ sizes) in
+    let count : length w ≡ getD w 1 0 + 2 = eqb-true _ _ (and-right (sizeLegal (getD w 0 0) (getD w 1 0)) _ rest) in
+    omega arith
+
+-- its two bytes of timeout, big-endian
+two-bytes : (a : List ℕ) → 3 ≤ length a → number (take 2 (drop 1 a)) ≡ 256 * getD a 1 0 + getD a 2 0
+unfolding number numberAfter
+two-bytes [] h = absurd (omega arith)
+two-bytes (x ∷ []) h = absurd (omega arith)
+two-bytes (x ∷ y ∷ []) h = absurd (omega arith)
+two-bytes (x ∷ y ∷ z ∷ rest) h = omega arith
+
+asked-tenths : (w : List ℕ) → length w ≡ 14 → askedTimeout (drop 10 w) ≡ askedIn w
+asked-tenths w h =
+    two-bytes (drop 10 w) (omega (arith, length-drop 10 w))
+    ∙ rw (getD-drop 10 w 1 0, getD-drop 10 w 2 0)
+
+-- a mask that is asked for is not none
+mask-some : (s : Settings) (a : List ℕ) → ringLegal s a ≡ true → (askedMask a ≡ 0 → ⊥) → ringMask s a ≡ 0 → ⊥
+unfolding ringLegal
+mask-some s a legal some none = go (eqb (askedMask a) wholeMask) refl
+  where
+    go : (b : Bool) → eqb (askedMask a) wholeMask ≡ b → ⊥
+    go true e =
+        let empty : ringable (s .components) ≡ 0 = rw e at none in
+        let all : allOfNone s a ≡ true = rw (e, eq-eqb (ringable (s .components)) 0 empty) in
+        clash (and-left _ _ (and-right (inside (ringMask s a) (s .components)) _ legal)) (ap not all)
+    go false e = some (rw e at none)
+
+module _ (u v : TagUnit) (w : List ℕ) (answer : List ℕ) (long : length w ≡ 14) (ring : getD w 0 0 ≡ 0x05) (some : getD w 10 0 ≡ 0 → ⊥) where
+  effect-begun : Effect (spent u) (parsed w) v answer → Begun u v (askedIn w)
+  unfolding parsed
+  effect-begun (apart head other l) = absurd (other ring)
+  effect-begun (rings id legal is) =
+      record {
+        mask = ringMask (u .settings) (drop 10 w);
+        volume = heldVolume (u .settings) (drop 10 w);
+        sounds = ap (λ (x : TagUnit). x .sound) is ∙ rw (asked-tenths w long);
+        nonce = ap (λ (x : TagUnit). x .«ring_nonce») is;
+        identity = ap (λ (x : TagUnit). x .identity) is;
+      }
+  effect-begun (stops id legal none e) = absurd (mask-some (u .settings) (drop 10 w) legal (λ z. some (sym (getD-drop 10 w 0 0) ∙ z)) none)
+  effect-begun (rekeys id e) = absurd (omega arith)
+  effect-begun (clears id e) = absurd (omega arith)
+
+pub begun : (u : TagUnit) (w : List ℕ) (room : ℕ) → Starts w room u → Begun u (step (writes w room) u .unit) (askedIn w)
+begun u w room s =
+    let a = admitted w room u (s .accepted .0) (s .accepted .1) in
+    effect-begun u (step (writes w room) u .unit) w (s .accepted .0) (ring-long w (a .legal) (s .ring)) (s .ring) (s .some) (a .effect)
+
+pub start-formed : (u : TagUnit) (w : List ℕ) (room : ℕ) → Starts w room u → wellFormed u ≡ true
+start-formed u w room s = admitted w room u (s .accepted .0) (s .accepted .1) .formed

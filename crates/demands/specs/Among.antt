@@ -1,0 +1,31 @@
+-- What stands among the calls of a list, in the paper's terms and literal numbers: a write that was accepted, by its ID, a press of the
+-- button with room, and the tenths that its elapsed calls come to.
+use Prim.Native.Nat.{ℕ, _+_, _≤_}
+use mathlib.Core.Path.{_≡_}
+use mathlib.Core.Bool.{cond}
+use mathlib.Core.List.{List, [], _∷_}
+use lib.Dec.{leb}
+use lib.ListN.{getD}
+use Rattle.unit.specs.declared.TagUnit.{TagUnit}
+use Rattle.tag.specs.Calls.{Written, write, button, Act, calls, waits}
+use Rattle.demands.specs.History.{step}
+use Rattle.demands.specs.Nonces.{Succeeds}
+
+-- no act of the list, from the unit on, is such on the unit that it meets
+abbrev pub NoneIn : (Act → TagUnit → Type 0) → List Act → TagUnit → Type 0
+NoneIn Such [] u = Unit {0}
+NoneIn Such (a ∷ l) u = (Such a u → ⊥) × NoneIn Such l (step a u .unit)
+
+-- a write of this ID, "A write is ID, length, ..", that succeeded on the unit
+pub data Accepts (id : ℕ) : Act → TagUnit → Type 0 where
+  accepts : {w : Written} {room : ℕ} {u : TagUnit} → getD (w .bytes) 0 0 ≡ id → Succeeds (calls (write w) room) u → Accepts id (calls (write w) room) u
+
+-- a press with room for an answer, "6 | lent answer bytes fewer than 42"
+pub data Presses : Act → Type 0 where
+  presses : {room : ℕ} → 42 ≤ room → Presses (calls button room)
+
+-- "A refused elapsed call counts as no time."
+abbrev pub tenthsIn : List Act → ℕ
+tenthsIn [] = 0
+tenthsIn (waits n room ∷ l) = cond (leb 42 room) n 0 + tenthsIn l
+tenthsIn (calls c room ∷ l) = tenthsIn l
