@@ -27,6 +27,7 @@ pub mod Nonces
 pub mod RingStarts
 pub mod RingRuns
 pub mod RingLasts
+pub mod ConsentLasts
 pub mod KeyKept
 pub mod KeyBytes
 pub mod Blocks

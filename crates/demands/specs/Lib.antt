@@ -12,5 +12,6 @@ pub mod Recovery
 pub mod Time
 pub mod Among
 pub mod RingLasts
+pub mod ConsentLasts
 pub mod Examples
 pub mod Example
