@@ -98,7 +98,7 @@ pub ring-legal : (s : Settings) (asked mask timeout volume : ℕ) → s .compone
 unfolding ringLegal
 ring-legal s asked mask timeout volume few l =
     let m = meant s asked mask ((timeout / 256) ∷ (timeout % 256) ∷ volume ∷ []) few (l .means) in
-    rw (m .is, m .within, m .someone, timeout-is asked timeout volume, le-leb volume 3 (l .quiet), le-leb 1 timeout (l .least), le-leb timeout 6000 (l .most))
+    rw (m .is, m .within, m .someone, timeout-is asked timeout volume, le-leb volume 3 (l .volumeWithin), le-leb 1 timeout (l .least), le-leb timeout 6000 (l .most))
     (or-right (eqb mask 0) refl)
 
 pub stop-legal : (s : Settings) (high low volume : ℕ) → s .components ≤ 3 → volume ≤ 3 → ringLegal s (0 ∷ high ∷ low ∷ volume ∷ []) ≡ true

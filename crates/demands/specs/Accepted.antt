@@ -74,15 +74,7 @@ parameterBytes u =
     ∷ 0x00
     ∷ u .settings .components
     ∷ u .settings .selectable
-    ∷ 0
-    ∷ 0
-    ∷ 0
-    ∷ 0
-    ∷ 0
-    ∷ 0
-    ∷ 0
-    ∷ 0
-    ∷ []
+    ∷ replicate 8 0
 
 -- "bit 0x01 identity key held, bit 0x02 the key used is owner": the key at place p. "0x01 with no owner makes that key the owner (house),
 -- and its answer already shows it as owner"
@@ -108,7 +100,7 @@ pub record OwnerKnown (p : ℕ) (u v : TagUnit) : Type 0 where
   pub owner : v .accounts .owner ≡ ownerThen (u .accounts .owner) p
   pub rest : AllBut (nonce ∷ accounts ∷ []) u v
 
--- silent, with no nonce of a ring; and no identifier lent: "room for absent things .. zero"
+-- silent, with no nonce of a ring; and no identifier lent. A record with "room for absent things not zero, is not well formed"
 abbrev pub Silent : TagUnit → Type 0
 Silent v = (v .sound ≡ Sound.Silent) × (v .«ring_nonce» ≡ replicate 8 0)
 
@@ -165,7 +157,7 @@ pub record RingLegal (components asked mask timeout volume : ℕ) : Type 0 where
   pub some : 0 < mask
   pub least : 1 ≤ timeout
   pub most : timeout ≤ 6000
-  pub quiet : volume ≤ 3
+  pub volumeWithin : volume ≤ 3
 
 -- "0x05 data: mask, timeout (2 bytes), volume"
 abbrev pub ringBytes : ℕ → ℕ → ℕ → List ℕ
@@ -224,7 +216,7 @@ pub record Accepted : Type 0 where
   pub keyRecovered : (u : TagUnit) (room : ℕ) (key : List ℕ) → Open u room → OwnedWith u key → u .identity .held ≡ true
       → ((0 < u .consent) ⊎ (u .pairing ≡ true))
       → Serves (writes (sent u 0x04 (recoveryKeyOf u) []) room) u (answer u 0x04 (recoveryKeyOf u) (keyBlocks key (u .identity .bytes))) (OnlySpends u)
-  -- "0x05 .. ring key": a ring, and a stop, which "ignores timeout"
+  -- "0x05, 0x06: ring key": a ring, which "replaces the old one with no stop notice"; and a stop, which "ignores timeout"
   pub rings : (u : TagUnit) (room asked mask timeout volume : ℕ) → Open u room → u .identity .held ≡ true
       → RingLegal (u .settings .components) asked mask timeout volume
       → Serves (writes (sent u 0x05 (ringKeyOf u) (ringBytes asked timeout volume)) room) u
@@ -241,10 +233,10 @@ pub record Accepted : Type 0 where
   pub skipStops : (u : TagUnit) (room high low volume : ℕ) (tag : List ℕ) → Open u room → u .identity .held ≡ true
       → u .protection ≡ Protection.On true → length tag ≡ 8 → volume ≤ 3
       → Serves (writes (0x05 ∷ 12 ∷ tag ++ (0 ∷ high ∷ low ∷ volume ∷ [])) room) u (stopNotice u (u .nonce .bytes) 4) (Stopped u)
-  -- "0x06: ring key"
+  -- "0x05, 0x06: ring key"
   pub soundRead : (u : TagUnit) (room : ℕ) → Open u room → u .identity .held ≡ true
       → Serves (writes (sent u 0x06 (ringKeyOf u) []) room) u (answer u 0x06 (ringKeyOf u) (soundBytes (u .sound))) (OnlySpends u)
-  -- "0x07: protection key; flag byte absent or 0 means skip off, 1 means on"
+  -- "0x07: protection key; flag byte absent or 0 means skip off, 1 means on .. Given again, the new flag holds"
   pub protects : (u : TagUnit) (room : ℕ) → Open u room → u .identity .held ≡ true
       → Serves (writes (sent u 0x07 (protectionKeyOf u) []) room) u (answer u 0x07 (protectionKeyOf u) []) (Protects (Protection.On false) u)
   pub protectsFlagged : (u : TagUnit) (room flag : ℕ) → Open u room → u .identity .held ≡ true → flag < 2

@@ -25,8 +25,8 @@ abbrev pub PowerWithin : ℤ → Type 0
 PowerWithin (pos n) = n ≤ 20
 PowerWithin (negsuc n) = n + 1 ≤ 100
 
--- "Fresh: no keys, nonce, sound, protection, consent, pairing or identifier; battery 0"; "A fresh unit starts at 0"; "room for absent things
--- .. zero"
+-- "Fresh: no keys, nonce, sound, protection, consent, pairing or identifier; battery 0"; "A fresh unit starts at 0". A record with "room
+-- for absent things not zero, is not well formed"
 pub record Fresh (power : ℤ) (components selectable : ℕ) (v : TagUnit) : Type 0 where
   pub settingsAre : v .settings ≡ record { power = power; components = components; selectable = selectable }
   pub clockIs : v .clock ≡ record { seconds = 0; tenth = 0 }
@@ -96,7 +96,7 @@ pub record TenthPasses (u : TagUnit) (room : ℕ) (answer : List ℕ) (ended : �
   pub consentLeft : step (waits 1 room) u .unit .consent ≡ u .consent - 1
   pub rest : AllBut (clock ∷ sound ∷ ringNonce ∷ consent ∷ []) u (step (waits 1 room) u .unit)
 
--- a unit on which time passes
+-- a unit on which time passes; its seconds are 32 bits, as those of every record of the code
 pub record Ticks (u : TagUnit) (room : ℕ) : Type 0 where
   pub formed : wellFormed u ≡ true
   pub fits : 42 ≤ room
