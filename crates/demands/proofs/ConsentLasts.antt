@@ -16,7 +16,7 @@ use Rattle.unit.specs.declared.Sound.{Sound}
 use Rattle.unit.specs.WellFormed.{wellFormed}
 use Rattle.unit.specs.Change.{fresh, spent}
 use Rattle.unit.specs.Outcome.{Outcome}
-use Rattle.authentication.specs.Judgement.{settled, lastNonce}
+use Rattle.authentication.specs.Judgement.{concluded, lastNonce}
 use Rattle.provisioning.specs.Provisioning.{recoverKey}
 use Rattle.requests.specs.Write.{byId, judged, written}
 use Rattle.tag.specs.Own.{pressed}
@@ -117,7 +117,7 @@ module _ (u : TagUnit) (key : List ℕ) (room : ℕ) (ready : Ready u key room) 
   abbrev mark : List ℕ
   mark = requestTag (recoveryKey (u .identity .bytes)) (lastNonce u) 0x04 8 []
 
-  comes : step (writes (bytesOf 0x04 8 mark []) room) u ≡ settled (spent u) (recoverKey (spent u) (requestOf 0x04 8 mark []))
+  comes : step (writes (bytesOf 0x04 8 mark []) room) u ≡ concluded (spent u) (recoverKey (spent u) (requestOf 0x04 8 mark []))
   unfolding act call guarded own written judged byId sizeLegal oneOf legalSizes
   comes =
       let eight = length-requestTag (recoveryKey (u .identity .bytes)) (lastNonce u) 0x04 8 [] in
