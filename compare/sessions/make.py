@@ -18,8 +18,9 @@ import shutil
 import subprocess
 import sys
 
-# The first four are there for what they put into STORED.
+# The first five are there for what they put into STORED.
 import frames
+import matching
 import provisioning
 import refusals
 import ringing

@@ -119,6 +119,10 @@ class Session:
     def recover(self, expect=OK):
         self.ask(self.sub(1), 4, b"", expect)
 
+    def recover_as(self, identity, expect=OK):
+        """0x04 as by a phone that holds this identity key, whatever the tag holds."""
+        self.ask(sha(identity, b"\x01")[:8], 4, b"", expect)
+
     def set_identity(self, identity, expect=OK):
         """0x02 of 40 or, where a key is held, of 48."""
         held = self.tag.identity is not None
