@@ -43,3 +43,4 @@ pub mod LentRoom
 pub mod OwnRefusals
 pub mod RefusalOrder
 pub mod Example
+pub mod Demands

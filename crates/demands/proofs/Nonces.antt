@@ -4,7 +4,7 @@
 use Prim.Native.Nat.{ℕ}
 use mathlib.Core.Path.{_≡_, refl, sym, ap, subst, _∙_}
 use mathlib.Core.Bool.{true, false, false≢true}
-use mathlib.Core.List.{List, [], _∷_}
+use mathlib.Core.List.{List, [], _∷_, _++_}
 use mathlib.Core.Logic.{_⊎_, inl, inr}
 use Rattle.laws.proofs.Flags.{clash}
 use Rattle.laws.proofs.Same.{same-equal}
@@ -161,6 +161,12 @@ nonces =
       between =
           λ s g v firstRoom h w room earlier accepted.
           let first = calls (write v) firstRoom in
-          rw (after-append g (first ∷ []) (fresh s), after-append g (first ∷ h) (fresh s))
-          (separate (after g (fresh s)) v firstRoom h w room earlier (rw (after-append g (first ∷ h) (fresh s)) at accepted));
+          let then : after (g ++ (first ∷ [])) (fresh s) ≡ step first (after g (fresh s)) .unit = after-append g (first ∷ []) (fresh s) in
+          let last : after (g ++ (first ∷ h)) (fresh s) ≡ after h (step first (after g (fresh s)) .unit) = after-append g (first ∷ h) (fresh s) in
+          let found =
+          separate (after g (fresh s)) v firstRoom h w room earlier (subst (λ (u : TagUnit). Succeeds (calls (write w) room) u) last accepted) in (
+            found .0,
+            subst (λ (u : TagUnit). Issue u h (found .0)) (sym then) (found .1),
+            subst (λ (u : TagUnit). Authenticated u (w .bytes) (found .0)) (sym last) (found .2),
+          );
     }

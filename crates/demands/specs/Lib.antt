@@ -15,3 +15,4 @@ pub mod RingLasts
 pub mod ConsentLasts
 pub mod Examples
 pub mod Example
+pub mod Demands

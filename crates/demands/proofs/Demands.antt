@@ -1,0 +1,27 @@
+-- Every demand holds: each by its own file.
+use Rattle.demands.specs.Demands.{Demands}
+use Rattle.demands.proofs.Ends.{demand1}
+use Rattle.demands.proofs.Formed.{formed}
+use Rattle.demands.proofs.Accepted.{accepted}
+use Rattle.demands.proofs.Nonces.{nonces}
+use Rattle.demands.proofs.Recovery.{recovery}
+use Rattle.demands.proofs.Example.{example}
+use Rattle.demands.proofs.ConsentLasts.{consent-lasts}
+use Rattle.demands.proofs.Examples.{edges}
+use Rattle.demands.proofs.Time.{demand3}
+use Rattle.demands.proofs.RingLasts.{ring-lasts}
+
+pub demands : Demands
+demands =
+    record {
+      ended = demand1;
+      formed = formed;
+      accepted = accepted;
+      nonces = nonces;
+      recovered = recovery;
+      recoveredOnce = example;
+      consentLasts = consent-lasts;
+      edges = edges;
+      sleeps = demand3;
+      ringLasts = ring-lasts;
+    }

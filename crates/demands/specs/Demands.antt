@@ -1,0 +1,43 @@
+-- All that is stated of the tag, gathered: who holds a proof of `Demands` holds a proof of each. The client's conditions of acceptance, word
+-- for word:
+--
+-- "1. Every call on any bytes and any unit record ends, with a result or one refusal from the numbered list. A write refused with 0x80, 0x81
+-- or 0x82 spends the nonce and changes nothing else in the unit; other refusals change nothing; no refusal touches the lent answer bytes.
+-- Reason: a silent drop is how we lost him."
+--
+-- "2. Every answer, notification, frame and later state is what the published v1.3 rules and our house choices define, for every write,
+-- read, button press and stretch of time. Each issue of a nonce authenticates at most one write. While a key stays set, recovery returns the
+-- same 32 encrypted bytes that set it. Reason: phones we've never met must find our pumps."
+--
+-- "3. The tag sleeps. Take any two lists of these calls, refused ones included: read, write, button, pairing, battery, account key, lent
+-- identifier, frame and elapsed time. Both start from equal fresh units, and each call gets the unit that the one before it left. Both have
+-- the same calls other than time in the same order, and equal total time before the first of those, between neighbours and after the last
+-- (in all, if there are none). A refused elapsed call counts as no time. However that time is cut into calls, even of length zero, both give
+-- the same answers to the other calls, the same notifications in order at the same tenth of a second, and the same final unit. All of these
+-- equal what the plain tag of our rules, moving one tenth at a time, gives for either list. Reason: a ring asked for ten minutes must last ten
+-- minutes whether the chip dozed once or a thousand times."
+use Rattle.demands.specs.Ends.{Demand1}
+use Rattle.demands.specs.Formed.{Formed}
+use Rattle.demands.specs.Accepted.{Accepted}
+use Rattle.demands.specs.Nonces.{Demand2Nonces}
+use Rattle.demands.specs.Recovery.{Demand2Recovery}
+use Rattle.demands.specs.Example.{Example}
+use Rattle.demands.specs.Time.{Demand3}
+use Rattle.demands.specs.RingLasts.{RingLasts}
+use Rattle.demands.specs.ConsentLasts.{ConsentLasts}
+use Rattle.demands.specs.Examples.{Edges}
+
+pub record Demands : Type 0 where
+  -- 1: how every call ends, and that a unit stays one that calls serve
+  pub ended : Demand1
+  pub formed : Formed
+  -- 2: what valid reads and writes are answered; nonces; recovery, with an example of it; consent; the paper's examples
+  pub accepted : Accepted
+  pub nonces : Demand2Nonces
+  pub recovered : Demand2Recovery
+  pub recoveredOnce : Example
+  pub consentLasts : ConsentLasts
+  pub edges : Edges
+  -- 3: however time is cut; and the reason given for it
+  pub sleeps : Demand3
+  pub ringLasts : RingLasts
