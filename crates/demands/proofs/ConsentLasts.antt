@@ -43,10 +43,10 @@ time-consent n room u w = go (leb 42 room) refl
         let stands = time-stands n room u (λ fits. omega (arith, leb-false 42 room e)) in
         rw (e, stands .1) (omega arith)
 
-module _ (a : Act) (u : TagUnit) (untimed : tenthsOf a ≡ 0) where
+module _ (a : Act) (u : TagUnit) where
   call-keeps : Does a u → (Consents a u → ⊥) → (Accepts 0x03 a u → ⊥) → step a u .unit .consent ≡ u .consent
   call-keeps (calmly calm) free kept = calm .leaves .consent
-  call-keeps (pressedSilent p s e) free kept = absurd (free (consents p s))
+  call-keeps (pressedSilent p s) free kept = absurd (free (consents p s))
   call-keeps (pressedRinging p e) free kept = e
   call-keeps (rung x e) free kept = e
   call-keeps (keySet x e) free kept = e
@@ -54,18 +54,18 @@ module _ (a : Act) (u : TagUnit) (untimed : tenthsOf a ≡ 0) where
 
   call-adds-none : Does a u → (Consents a u → ⊥) → step a u .unit .consent ≤ u .consent
   call-adds-none (calmly calm) free = omega (arith, calm .leaves .consent)
-  call-adds-none (pressedSilent p s e) free = absurd (free (consents p s))
+  call-adds-none (pressedSilent p s) free = absurd (free (consents p s))
   call-adds-none (pressedRinging p e) free = omega arith
   call-adds-none (rung x e) free = omega arith
   call-adds-none (keySet x e) free = omega arith
   call-adds-none (cleared x e) free = omega arith
 
 act-keeps : (a : Act) (u : TagUnit) → wellFormed u ≡ true → (Consents a u → ⊥) → (Accepts 0x03 a u → ⊥) → step a u .unit .consent ≡ u .consent - tenthsOf a
-act-keeps (calls c room) u w free kept = call-keeps (calls c room) u refl (call-does c room u) free kept ∙ omega arith
+act-keeps (calls c room) u w free kept = call-keeps (calls c room) u (call-does c room u) free kept ∙ omega arith
 act-keeps (waits n room) u w free kept = time-consent n room u w
 
 act-adds-none : (a : Act) (u : TagUnit) → wellFormed u ≡ true → (Consents a u → ⊥) → step a u .unit .consent ≤ u .consent - tenthsOf a
-act-adds-none (calls c room) u w free = let most = call-adds-none (calls c room) u refl (call-does c room u) free in omega arith
+act-adds-none (calls c room) u w free = let most = call-adds-none (calls c room) u (call-does c room u) free in omega arith
 act-adds-none (waits n room) u w free = let is = time-consent n room u w in omega arith
 
 -- A list
@@ -90,7 +90,7 @@ list-adds-none (a ∷ l) u w free =
 
 -- on any unit at all, none is added
 act-no-more : (a : Act) (u : TagUnit) → (Consents a u → ⊥) → step a u .unit .consent ≤ u .consent
-act-no-more (calls c room) u free = call-adds-none (calls c room) u refl (call-does c room u) free
+act-no-more (calls c room) u free = call-adds-none (calls c room) u (call-does c room u) free
 act-no-more (waits n room) u free = go (met (waits n room) u)
   where
     go : Met (waits n room) u → step (waits n room) u .unit .consent ≤ u .consent

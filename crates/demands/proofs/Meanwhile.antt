@@ -38,7 +38,7 @@ pub record Calm (u : TagUnit) (o : Outcome) : Type 0 where
 
 pub data Does (a : Act) (u : TagUnit) : Type 0 where
   calmly : Calm u (step a u) → Does a u
-  pressedSilent : Presses a → u .sound ≡ Sound.Silent → step a u .unit .consent ≡ 600 → Does a u
+  pressedSilent : Presses a → u .sound ≡ Sound.Silent → Does a u
   pressedRinging : Presses a → step a u .unit .consent ≡ u .consent → Does a u
   rung : Accepts 0x05 a u → step a u .unit .consent ≡ u .consent → Does a u
   keySet : Accepts 0x02 a u → step a u .unit .consent ≡ u .consent → Does a u
@@ -80,7 +80,7 @@ unfolding pressed
 press-does room u fits e = go (u .sound) refl e
   where
     go : (s : Sound) → u .sound ≡ s → step (calls button room) u ≡ pressed s u → Does (calls button room) u
-    go Sound.Silent is o = pressedSilent (presses fits) is (ap (λ (x : Outcome). x .unit .consent) o)
+    go Sound.Silent is o = pressedSilent (presses fits) is
     go (Sound.Ringing mask volume left) is o = pressedRinging (presses fits) (ap (λ (x : Outcome). x .unit .consent) o)
 
 -- The write that passes

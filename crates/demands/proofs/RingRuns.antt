@@ -57,7 +57,7 @@ calm-idle c room v calm =
 call-turn : (c : Call) (room : ℕ) (v : World) → Does (calls c room) (v .unit) → (Disturbs (calls c room) (v .unit) → ⊥) → Turn (calls c room) v
 unfolding ran
 call-turn c room v (calmly calm) free = idle refl (calm-idle c room v calm)
-call-turn c room v (pressedSilent p s e) free = absurd (free (pressed p))
+call-turn c room v (pressedSilent p s) free = absurd (free (pressed p))
 call-turn c room v (pressedRinging p e) free = absurd (free (pressed p))
 call-turn c room v (rung a e) free = absurd (free (ringAgain a))
 call-turn c room v (keySet a e) free = absurd (free (newKey a))
