@@ -29,7 +29,7 @@ use Rattle.demands.proofs.Guards.{Met, barred, passed, met}
 use Rattle.demands.proofs.Judging.{opened, length-requestTag, requestOf, bytesOf, parts, shape, own-tag}
 use Rattle.demands.proofs.KeyPlaces.{owner-key}
 use Rattle.demands.proofs.RingTenths.{tenths-consent}
-use Rattle.demands.proofs.Meanwhile.{Does, calmly, pressedSilent, pressedRinging, rung, keySet, cleared, call-does, tenthsOf, begins, time-passes, time-stands}
+use Rattle.demands.proofs.CallsOnSound.{Does, calmly, pressedSilent, pressedRinging, rung, keySet, cleared, call-does, tenthsOf, begins, time-passes, time-stands}
 
 -- One act
 time-consent : (n room : ℕ) (u : TagUnit) → wellFormed u ≡ true → step (waits n room) u .unit .consent ≡ u .consent - tenthsOf (waits n room)

@@ -5,18 +5,26 @@ use Rattle.demands.proofs.Formed.{formed}
 use Rattle.demands.proofs.Accepted.{accepted}
 use Rattle.demands.proofs.Nonces.{nonces}
 use Rattle.demands.proofs.Recovery.{recovery}
-use Rattle.demands.proofs.Example.{example}
+use Rattle.demands.proofs.RecoveryExample.{example}
 use Rattle.demands.proofs.ConsentLasts.{consent-lasts}
-use Rattle.demands.proofs.Examples.{edges}
+use Rattle.demands.proofs.Edges.{edges}
 use Rattle.demands.proofs.Time.{demand3}
 use Rattle.demands.proofs.RingLasts.{ring-lasts}
+use Rattle.demands.proofs.RefusalOrder.{refusal-order}
+use Rattle.demands.proofs.RecordLines.{well-formed-exactly}
+use Rattle.demands.proofs.Refused.{refused}
+use Rattle.demands.proofs.Events.{events}
 
 pub demands : Demands
 demands =
     record {
       ended = demand1;
       formed = formed;
+      refusals = refusal-order;
+      wellFormed = well-formed-exactly;
       accepted = accepted;
+      refused = refused;
+      events = events;
       nonces = nonces;
       recovered = recovery;
       recoveredOnce = example;

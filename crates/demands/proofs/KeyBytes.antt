@@ -26,8 +26,8 @@ use Rattle.tag.specs.Calls.{own, Act, calls}
 use Rattle.demands.specs.History.{step, after, Bytes, OfBytes, AllOfBytes}
 use Rattle.demands.proofs.Guards.{ownOf, met, Met, barred, passed}
 use Rattle.demands.proofs.OfBytes.{bytes-take, bytes-drop, bytes-cons, bytes-append}
-use Rattle.demands.proofs.Ruled.{choose, set, clear, recovered, other, Ended, turned, served, ends-written}
-use Rattle.demands.proofs.Beside.{Sorted, aRead, aWrite, aKey, aside, sorted, Keeping, same, more, keeps}
+use Rattle.demands.proofs.WritesOnKeys.{choose, set, clear, recovered, other, Ended, turned, served, ends-written}
+use Rattle.demands.proofs.OtherCalls.{Sorted, aRead, aWrite, aKey, aside, sorted, Keeping, same, more, keeps}
 
 -- a key of sixteen bytes
 pub record Sixteen (key : List ℕ) : Type 0 where

@@ -23,8 +23,8 @@ use Rattle.tag.specs.Calls.{Written, write, own, Act, calls}
 use Rattle.demands.specs.History.{step, after}
 use Rattle.demands.specs.Recovery.{Rekeys, rekeys, Keeps}
 use Rattle.demands.proofs.Guards.{ownOf, met, Met, barred, passed}
-use Rattle.demands.proofs.Ruled.{Alone, choose, set, clear, recovered, other, Ended, turned, served, ends-written}
-use Rattle.demands.proofs.Beside.{Sorted, aRead, aWrite, aKey, aside, sorted, Keeping, same, more, keeps}
+use Rattle.demands.proofs.WritesOnKeys.{Alone, choose, set, clear, recovered, other, Ended, turned, served, ends-written}
+use Rattle.demands.proofs.OtherCalls.{Sorted, aRead, aWrite, aKey, aside, sorted, Keeping, same, more, keeps}
 
 -- The unit v has the identity key of u, and the owner's key where u has one
 pub record Holding (u v : TagUnit) : Type 0 where

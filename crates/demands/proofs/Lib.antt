@@ -1,6 +1,6 @@
 pub mod Choices
 pub mod Room
-pub mod Examples
+pub mod Edges
 pub mod Guards
 pub mod Ends
 pub mod Tenths
@@ -17,12 +17,12 @@ pub mod Judging
 pub mod Spelling
 pub mod Accepted
 pub mod Events
-pub mod Ruled
-pub mod Beside
+pub mod WritesOnKeys
+pub mod OtherCalls
 pub mod KeyPlaces
-pub mod Granted
-pub mod Meanwhile
-pub mod Noncing
+pub mod WritesOnSound
+pub mod CallsOnSound
+pub mod CallsOnNonce
 pub mod Nonces
 pub mod RingStarts
 pub mod RingRuns
@@ -42,5 +42,5 @@ pub mod Refused
 pub mod LentRoom
 pub mod OwnRefusals
 pub mod RefusalOrder
-pub mod Example
+pub mod RecoveryExample
 pub mod Demands

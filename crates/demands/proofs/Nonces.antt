@@ -18,8 +18,8 @@ use Rattle.unit.specs.Change.{fresh, spent}
 use Rattle.tag.specs.Calls.{Written, read, write, Act, calls}
 use Rattle.demands.specs.History.{step, after}
 use Rattle.demands.specs.Nonces.{Succeeds, PassesGuards, passes, Issues, issues, Quiet, Issue, MayTag, parameters, state, keySet, cleared, recovery, ring, soundState, protected, unprotected, Authenticated, tagged as tagged-with, skipped, Demand2Nonces}
-use Rattle.demands.proofs.Granted.{Authorised, signed-by, unasked, admitted}
-use Rattle.demands.proofs.Noncing.{issued, Noncing, issue, spend, keep, noncing}
+use Rattle.demands.proofs.WritesOnSound.{Authorised, signed-by, unasked, admitted}
+use Rattle.demands.proofs.CallsOnNonce.{issued, Noncing, issue, spend, keep, noncing}
 use Rattle.demands.proofs.Histories.{after-append}
 
 -- One call earlier

@@ -26,7 +26,7 @@ use Rattle.tag.specs.Calls.{Written, write, Act, calls}
 use Rattle.demands.specs.History.{step, after, Bytes}
 use Rattle.demands.specs.Recovery.{dataOf, Demand2Recovery}
 use Rattle.demands.proofs.Judging.{length-answerTag}
-use Rattle.demands.proofs.Ruled.{Did, set, clear, recovered, other, Served, accepted-write}
+use Rattle.demands.proofs.WritesOnKeys.{Did, set, clear, recovered, other, Served, accepted-write}
 use Rattle.demands.proofs.OfBytes.{bytes-drop, split-bytes}
 use Rattle.demands.proofs.Histories.{after-append}
 use Rattle.demands.proofs.KeyKept.{Holding, history-holds}

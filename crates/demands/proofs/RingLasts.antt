@@ -17,7 +17,7 @@ use Rattle.demands.specs.RingLasts.{Starts, askedIn, Disturbs, Lasts, Ri
 use Rattle.demands.proofs.Histories.{after-append}
 use Rattle.demands.proofs.Nonces.{nonces}
 use Rattle.demands.proofs.RingTenths.{silent-call, ringing-call, ending-call}
-use Rattle.demands.proofs.Meanwhile.{time-passes}
+use Rattle.demands.proofs.CallsOnSound.{time-passes}
 use Rattle.demands.proofs.RingStarts.{begun, start-formed}
 use Rattle.demands.proofs.RingRuns.{ran-unit, next-formed, ring-run}
 

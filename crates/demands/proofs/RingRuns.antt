@@ -23,7 +23,7 @@ use Rattle.demands.specs.Among.{NoneIn, tenthsIn}
 use Rattle.demands.specs.RingLasts.{timeoutFrom, Disturbs, pressed, rung as ringAgain, keySet as newKey, cleared as keyCleared}
 use Rattle.demands.proofs.Formed.{formed}
 use Rattle.demands.proofs.RingTenths.{silent-call, ringing-call, ending-call}
-use Rattle.demands.proofs.Meanwhile.{Calm, Does, calmly, pressedSilent, pressedRinging, rung, keySet, cleared, call-does, tenthsOf, begins, time-passes, time-stands}
+use Rattle.demands.proofs.CallsOnSound.{Calm, Does, calmly, pressedSilent, pressedRinging, rung, keySet, cleared, call-does, tenthsOf, begins, time-passes, time-stands}
 
 -- A world that an act left as it was, as far as the ring and its notices go
 record Idle (v w : World) : Type 0 where

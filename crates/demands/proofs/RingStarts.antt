@@ -21,7 +21,7 @@ use Rattle.unit.specs.Change.{spent}
 use Rattle.ringing.specs.Ringing.{ringLegal, ringMask, heldVolume, askedMask, askedTimeout, allOfNone, wholeMask}
 use Rattle.demands.specs.History.{step, writes}
 use Rattle.demands.specs.RingLasts.{Starts, askedIn}
-use Rattle.demands.proofs.Granted.{Effect, apart, rings, stops, rekeys, clears, admitted}
+use Rattle.demands.proofs.WritesOnSound.{Effect, apart, rings, stops, rekeys, clears, admitted}
 
 -- a ring that this unit has begun: the nonce and the key are those of the unit before
 pub record Begun (u v : TagUnit) (t : ℕ) : Type 0 where

@@ -19,23 +19,31 @@
 use Rattle.demands.specs.Ends.{Demand1}
 use Rattle.demands.specs.Formed.{Formed}
 use Rattle.demands.specs.Accepted.{Accepted}
+use Rattle.demands.specs.Refused.{Refused}
+use Rattle.demands.specs.RefusalOrder.{RefusalOrder}
+use Rattle.demands.specs.RecordLines.{WellFormedExactly}
+use Rattle.demands.specs.Events.{Events}
 use Rattle.demands.specs.Nonces.{Demand2Nonces}
 use Rattle.demands.specs.Recovery.{Demand2Recovery}
-use Rattle.demands.specs.Example.{Example}
+use Rattle.demands.specs.RecoveryExample.{RecoveryExample}
 use Rattle.demands.specs.Time.{Demand3}
 use Rattle.demands.specs.RingLasts.{RingLasts}
 use Rattle.demands.specs.ConsentLasts.{ConsentLasts}
-use Rattle.demands.specs.Examples.{Edges}
+use Rattle.demands.specs.Edges.{Edges}
 
 pub record Demands : Type 0 where
-  -- 1: how every call ends, and that a unit stays one that calls serve
+  -- 1: how every call ends, with which refusals in which order, and that a unit stays one that calls serve
   pub ended : Demand1
   pub formed : Formed
-  -- 2: what valid reads and writes are answered; nonces; recovery, with an example of it; consent; the paper's examples
+  pub refusals : RefusalOrder
+  pub wellFormed : WellFormedExactly
+  -- 2: what each call gives and leaves, and which writes are refused; nonces; recovery, with an example of it; consent; the paper's examples
   pub accepted : Accepted
+  pub refused : Refused
+  pub events : Events
   pub nonces : Demand2Nonces
   pub recovered : Demand2Recovery
-  pub recoveredOnce : Example
+  pub recoveredOnce : RecoveryExample
   pub consentLasts : ConsentLasts
   pub edges : Edges
   -- 3: however time is cut; and the reason given for it

@@ -13,6 +13,6 @@ pub mod Time
 pub mod Among
 pub mod RingLasts
 pub mod ConsentLasts
-pub mod Examples
-pub mod Example
+pub mod Edges
+pub mod RecoveryExample
 pub mod Demands

@@ -5,10 +5,10 @@ use Rattle.replay_file.proofs.from_descriptor.Statement.{statement}
 use Rattle.replay_file.proofs.from_descriptor.Tie as tie
 
 abbrev Inv-loop : tie.InvT-loop
-Inv-loop fd session₀ left₀ session left = Unit {0}
+Inv-loop fd name session₀ left₀ session left = Unit {0}
 
 abbrev μ-loop : tie.MeasureT-loop
-μ-loop fd session₀ left₀ session left = left
+μ-loop fd name session₀ left₀ session left = left
 
 begin-requires : tie.Need-begin-requires Inv-loop μ-loop
 begin-requires c κs = search needs

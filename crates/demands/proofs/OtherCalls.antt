@@ -20,7 +20,7 @@ use Rattle.time.specs.Time.{endsNext, ringOn, oneTenth, afterTenth, tenths}
 use Rattle.tag.specs.Own.{pressed, showing, lending, charged, keeping}
 use Rattle.tag.specs.Calls.{Written, read, write, button, pairing, battery, accountKey, identifier, frame, own, Act, calls, waits}
 use Rattle.demands.proofs.Guards.{ownOf}
-use Rattle.demands.proofs.Ruled.{Alone, alone, choose}
+use Rattle.demands.proofs.WritesOnKeys.{Alone, alone, choose}
 
 -- an outcome whose unit is left alone
 abbrev pub Leaves : TagUnit → Outcome → Type 0

@@ -22,8 +22,8 @@ use Rattle.tag.specs.Calls.{Written, read, write, accountKey, own, Act, calls}
 use Rattle.demands.specs.History.{step}
 use Rattle.demands.specs.Nonces.{Succeeds, PassesGuards, passes, Issues, issues}
 use Rattle.demands.proofs.Guards.{roomFor, ownOf, met, Met, barred, passed, not-both}
-use Rattle.demands.proofs.Ruled.{Did, set, clear, recovered, other, Ended, turned, served, ends-written}
-use Rattle.demands.proofs.Beside.{kind, Sorted, aRead, aWrite, aKey, aside, sorted, Keeping, same, more, keeps}
+use Rattle.demands.proofs.WritesOnKeys.{Did, set, clear, recovered, other, Ended, turned, served, ends-written}
+use Rattle.demands.proofs.OtherCalls.{kind, Sorted, aRead, aWrite, aKey, aside, sorted, Keeping, same, more, keeps}
 
 abbrev pub issued : List ℕ → Nonce
 issued nonce = record { held = true; live = true; bytes = nonce }

@@ -58,7 +58,7 @@ pub record Shown (s : Settings) (key C n₁ n₂ n₃ : List ℕ) : Type 0 where
       × (step (writes (recovering key C n₃) 42) (after (provisioning key C n₁ n₂ n₃) (fresh s)) .result ≡ gives answer)
       × (dataOf answer ≡ C)
 
-pub record Example : Type 0 where
+pub record RecoveryExample : Type 0 where
   pub shown : (s : Settings) (key C n₁ n₂ n₃ : List ℕ) → Given s key C n₁ n₂ n₃ → Shown s key C n₁ n₂ n₃
   -- and there are such settings, keys and nonces
   pub some : Given (record { power = pos 0; components = 0; selectable = 0 }) (replicate 16 0) (replicate 32 0) (replicate 8 1) (replicate 8 2) (replicate 8 3)

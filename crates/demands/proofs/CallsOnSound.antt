@@ -29,7 +29,7 @@ use Rattle.demands.specs.Time.{noticed}
 use Rattle.demands.specs.Among.{Accepts, accepts, Presses, presses, tenthsIn}
 use Rattle.demands.proofs.Choices.{tested}
 use Rattle.demands.proofs.Guards.{roomFor, Met, barred, passed, met}
-use Rattle.demands.proofs.Granted.{Left, Effect, apart, rings, stops, rekeys, clears, Written as WriteEnd, turned, served, written-so}
+use Rattle.demands.proofs.WritesOnSound.{Left, Effect, apart, rings, stops, rekeys, clears, Written as WriteEnd, turned, served, written-so}
 
 -- sound and consent left, and no ring notice
 pub record Calm (u : TagUnit) (o : Outcome) : Type 0 where

@@ -32,13 +32,13 @@ use Rattle.demands.specs.History.{step, after, writes, Bytes, AllOfBytes
 use Rattle.demands.specs.Spelled.{tagFrom, requestFrom, keyAtPlace, OwnedWith}
 use Rattle.demands.specs.Accepted.{Serves, Open, First, answer, recoveryKeyOf, keyBlocks}
 use Rattle.demands.specs.Recovery.{Rekeys, rekeys, SetBy}
-use Rattle.demands.specs.Example.{Given, provisioning, recovering, Shown, Example}
+use Rattle.demands.specs.RecoveryExample.{Given, provisioning, recovering, Shown, RecoveryExample}
 use Rattle.demands.proofs.OfBytes.{bytes-take, bytes-cons, bytes-append}
 use Rattle.demands.proofs.Histories.{after-append}
 use Rattle.demands.proofs.Judging.{opened, length-requestTag}
 use Rattle.demands.proofs.Accepted.{reads, serves-state, serves-key, accepted}
-use Rattle.demands.proofs.Beside.{kind}
-use Rattle.demands.proofs.Noncing.{issued}
+use Rattle.demands.proofs.OtherCalls.{kind}
+use Rattle.demands.proofs.CallsOnNonce.{issued}
 use Rattle.demands.proofs.Recovery.{recovery}
 
 -- A write as sent is of bytes
@@ -233,7 +233,7 @@ replicate-bytes : (n x : ℕ) → x < 256 → Bytes (replicate n x)
 replicate-bytes zero x h = none
 replicate-bytes (suc n) x h = bytes-cons x (replicate n x) h (replicate-bytes n x h)
 
-pub example : Example
+pub example : RecoveryExample
 unfolding settingsLegal
 example =
     record {

@@ -5,7 +5,7 @@ use Rattle.laws.specs.Bytes.{number, numberAfter, bigEndian}
 use Rattle.ringing.specs.Ringing.{ring, rung, ringLegal}
 use Rattle.tag.specs.Calls.{newUnit}
 use Rattle.time.specs.Time.{clockOn, ringOn, oneTenth, afterTenth, tenths}
-use Rattle.demands.specs.Examples.{table, Edges}
+use Rattle.demands.specs.Edges.{table, Edges}
 
 pub edges : Edges
 unfolding table settingsLegal ring rung ringLegal number numberAfter bigEndian newUnit clockOn ringOn oneTenth afterTenth tenths
