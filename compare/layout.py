@@ -1,7 +1,7 @@
 #!/usr/bin/env python3
 """Checks that include/tag.h and the definitions name the same sizes, places, refusals and statuses, no fewer and no more.
 
-A size has the definition's name (nonceSize is TAG_NONCE_SIZE). A place has the names of the innermost group and of the field
+A size has the definition's name (nonceSize is TAG_NONCE_SIZE). A place has the names of the field that the innermost group stands for and of the field in it
 (TAG_NONCE_HELD_AT), or of the field alone where it stands in the unit itself or is a group's only one (TAG_CONSENT_AT, TAG_PROTECTION_AT).
 The numbers that a table of docs/INTEGRATION.md gives for constants are held to the header too.
 """
@@ -48,16 +48,16 @@ def fields(group, text):
     return found
 
 
-def places(group, at, text, sizes):
-    """Where the fields of a group that starts at a place stand; and where it ends."""
+def places(group, called, at, text, sizes):
+    """Where the fields of a group that is called so and starts at a place stand; and where it ends."""
     found, own = {}, fields(group, text)
     for part, name in own:
         if part.startswith("whole "):
-            inner, at = places(part.split()[1].removesuffix("Fields"), at, text, sizes)
+            inner, at = places(part.split()[1].removesuffix("Fields"), name, at, text, sizes)
             found.update(inner)
             continue
         alone = group == "unit" or len(own) == 1
-        label = (name if group == "unit" else group) if alone else group + name[0].upper() + name[1:]
+        label = (name if group == "unit" else called) if alone else called + name[0].upper() + name[1:]
         found[header_name(label) + "_AT"] = at
         kind = part.split()
         at += value(KINDS.get(kind[0]) or kind[1], sizes)
@@ -70,7 +70,7 @@ def main():
     text = "".join(map(read, PARTS))
     everything = {**sizes, **numbers(text)}
     wanted = {header_name(n): value(n, everything) for n in [*public, "recordSize", "version"]}
-    found, end = places("unit", value("byteSize", everything), text, everything)
+    found, end = places("unit", "unit", value("byteSize", everything), text, everything)
     assert end == wanted["TAG_RECORD_SIZE"]
     wanted.update(found, TAG_VERSION_AT=0)
     exported = numbers(read("crates/firmware/specs/Exported.antt"))

@@ -19,6 +19,7 @@
  *   - the bytes that tag_write, tag_button and tag_elapsed give are sent as notifications; those of a write before the write is answered;
  *   - the answer to a write is an error where the call is refused: TAG_NOT_AUTHENTICATED, TAG_INVALID_VALUE, TAG_NO_CONSENT, and another
  *     error of the host's own for the rest;
+ *   - tag_disconnect is called at the end of each connection, before the next one begins;
  *   - the record is saved after each call that changed it: a reboot must not bring an old nonce, key or clock back;
  *   - the record holds the keys in the clear: it is the host's to keep them secret.
  */
@@ -72,7 +73,7 @@ extern "C" {
 
 /* The record: where each field starts, right behind the one before it. Numbers are big-endian; a flag is 0 or 1; what is absent is zero.
  * The version is raised by every change of the layout; it is never 0x00 or 0xFF. */
-#define TAG_VERSION 0x01
+#define TAG_VERSION 0x02
 #define TAG_VERSION_AT 0 /* TAG_VERSION */
 #define TAG_SETTINGS_POWER_AT (TAG_VERSION_AT + 1) /* 4 bytes, two's complement */
 #define TAG_SETTINGS_COMPONENTS_AT (TAG_SETTINGS_POWER_AT + 4)
@@ -87,8 +88,10 @@ extern "C" {
 #define TAG_OWNER_PLACE_AT (TAG_OWNER_KIND_AT + 1) /* 8 bytes: the owner's place among the keys */
 #define TAG_ACCOUNTS_KEYS_AT (TAG_OWNER_PLACE_AT + 8) /* TAG_MOST_KEYS keys */
 #define TAG_IDENTITY_HELD_AT (TAG_ACCOUNTS_KEYS_AT + TAG_MOST_KEYS * TAG_ACCOUNT_KEY_SIZE)
-#define TAG_IDENTITY_BYTES_AT (TAG_IDENTITY_HELD_AT + 1)
-#define TAG_SOUND_KIND_AT (TAG_IDENTITY_BYTES_AT + TAG_IDENTITY_KEY_SIZE) /* 0 silent, 1 ringing */
+#define TAG_IDENTITY_BYTES_AT (TAG_IDENTITY_HELD_AT + 1) /* the identity key in force */
+#define TAG_WAITING_HELD_AT (TAG_IDENTITY_BYTES_AT + TAG_IDENTITY_KEY_SIZE) /* the identity key that waits for the connection to end */
+#define TAG_WAITING_BYTES_AT (TAG_WAITING_HELD_AT + 1)
+#define TAG_SOUND_KIND_AT (TAG_WAITING_BYTES_AT + TAG_IDENTITY_KEY_SIZE) /* 0 silent, 1 ringing */
 #define TAG_SOUND_MASK_AT (TAG_SOUND_KIND_AT + 1)
 #define TAG_SOUND_VOLUME_AT (TAG_SOUND_MASK_AT + 1)
 #define TAG_SOUND_LEFT_AT (TAG_SOUND_VOLUME_AT + 1) /* 2 bytes: tenths left */
@@ -130,10 +133,14 @@ uint64_t tag_battery(uint8_t *record, uint64_t record_bytes, uint32_t level);
 /* Adds an account key of TAG_ACCOUNT_KEY_SIZE bytes; one already held changes nothing. Refusals: 2, 4 (also for a sixth new key). Gives 0. */
 uint64_t tag_account_key(uint8_t *record, uint64_t record_bytes, const uint8_t *key, uint64_t key_bytes);
 
-/* Lends the identifier of the current window, with its r, of TAG_IDENTIFIER_SIZE bytes each. Refusals: 2, 1, 5 without an identity key. Gives 0. */
+/* The phone has hung up: an identity key that waits since an accepted 0x02 comes into force; a ring then ends without a notice, and the lent
+ * identifier is dropped. Without a waiting key nothing changes. Refusal: 2. Gives 0. */
+uint64_t tag_disconnect(uint8_t *record, uint64_t record_bytes);
+
+/* Lends the identifier of the current window, with its r, of TAG_IDENTIFIER_SIZE bytes each. Refusals: 2, 1, 5 without an identity key in force. Gives 0. */
 uint64_t tag_lend_identifier(uint8_t *record, uint64_t record_bytes, const uint8_t *r, uint64_t r_bytes, const uint8_t *id, uint64_t id_bytes);
 
-/* The advertised frame. Refusals: 6, 2, 5 without an identity key or an identifier of the current window. Gives 28 or 29. */
+/* The advertised frame. Refusals: 6, 2, 5 without an identity key in force or an identifier of the current window. Gives 28 or 29. */
 uint64_t tag_frame(uint8_t *record, uint64_t record_bytes, uint8_t *answer, uint64_t answer_bytes);
 
 /* The primitives. Messages and HMAC keys have up to TAG_LONGEST_MESSAGE bytes, AES keys and blocks TAG_BLOCK_SIZE; a hash answer has

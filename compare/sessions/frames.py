@@ -64,7 +64,7 @@ def frame_flags():
 
 @stored
 def identifier_lent_anew():
-    """Lent again in one window the newer one holds; 0x02 drops it."""
+    """Lent again in one window the newer one holds; the disconnect after 0x02 drops it."""
     s = owned()
     s.identifier(R, ID)
     s.identifier(ID, R)

@@ -18,7 +18,8 @@ import shutil
 import subprocess
 import sys
 
-# The first five are there for what they put into STORED.
+# The first six are there for what they put into STORED.
+import disconnecting
 import frames
 import matching
 import provisioning

@@ -37,6 +37,7 @@ MALFORMED = [
     ("event-for-id", THREE + "event=identifier\nr=00\nevent=frame\n", bad(6)),
     ("answers-stand", THREE + NONCE + "event=button\nevent=read\n", READ + "answer=button\n" + bad(8)),
     ("line-after-button", THREE + "event=button\non=1\n", "answer=button\n" + bad(5)),
+    ("line-after-disconnect", THREE + "event=disconnect\non=1\n", "answer=disconnect\n" + bad(5)),
     ("line-after-frame", THREE + "event=frame\nid=00\n", no("05") + bad(5)),
     ("line-too-many", THREE + NONCE + "nonce=0102030405060709\n", READ + bad(6)),
     # Newlines.
@@ -179,6 +180,11 @@ MALFORMED = [
     ("event-upper-case", THREE + "event=Button\n", bad(4)),
     ("event-longer", THREE + "event=buttons\n", bad(4)),
     ("event-shorter", THREE + "event=butto\n", bad(4)),
+    ("disconnect", THREE + "event=disconnect\nevent=disconnect\n", "answer=disconnect\nanswer=disconnect\n"),
+    ("disconnect-longer", THREE + "event=disconnected\n", bad(4)),
+    ("disconnect-shorter", THREE + "event=disconnec\n", bad(4)),
+    ("disconnect-upper-case", THREE + "event=Disconnect\n", bad(4)),
+    ("disconnect-not-closed", THREE + "event=disconnect", bad(4)),
     ("event-blank-after", THREE + "event=button \n", bad(4)),
     ("event-blank-before", THREE + " event=button\n", bad(4)),
     ("event-blank-inside", THREE + "event =button\n", bad(4)),
@@ -210,9 +216,9 @@ MALFORMED = [
     # All answers that need no keys, in one file.
     ("all-events", THREE + NONCE + "event=write\ndata=0108000000000000000" + "0\nevent=elapsed\ntenths=11\nevent=button\n"
      "event=pairing\non=1\nevent=battery\nlevel=2\nevent=key\nbytes=" + "0f" * 16 + "\nevent=identifier\nr=" + "00" * 20
-     + "\nid=" + "00" * 20 + "\nevent=frame\nevent=button\n",
+     + "\nid=" + "00" * 20 + "\nevent=frame\nevent=disconnect\nevent=button\n",
      READ + no("80") + "answer=elapsed\nnotes=0\nclock=1\nanswer=button\nanswer=pairing\nanswer=battery\nanswer=key\n"
-     + no("05") + no("05") + "answer=button\n"),
+     + no("05") + no("05") + "answer=disconnect\nanswer=button\n"),
 ]
 
 

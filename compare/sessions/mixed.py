@@ -28,7 +28,8 @@ def random_session(seed):
         nonce = tag.nonce or bytes(8)
         identity = tag.identity if tag.identity is not None else dice.choice((bytes(32), IDENTITY_1))
         owner = tag.owner or dice.choice(tag.keys or pool)
-        proof = sha(identity, nonce)[:8]
+        proved = tag.waiting if tag.waiting is not None and chance(0.15) else identity
+        proof = sha(proved, nonce)[:8]
         any_key = dice.choice(tag.keys or pool)
         data, key = b"", any_key
         if ident == 2:
@@ -123,8 +124,10 @@ def random_session(seed):
             s.key(dice.choice(pool), None)
         s.status(dice.choice(tag.keys))
         if chance(0.9):
-            s.set_identity(dice.choice((IDENTITY_1, dice.randbytes(32))))
-    acts = [(ask, 12), (time, 5), (s.button, 1.5), (lambda: s.pairing(dice.randrange(2)), 0.7),
+            s.offer_identity(dice.choice((IDENTITY_1, dice.randbytes(32))))
+            if chance(0.9):
+                s.disconnect()
+    acts = [(ask, 12), (time, 5), (s.button, 1.5), (s.disconnect, 1.5), (lambda: s.pairing(dice.randrange(2)), 0.7),
             (lambda: s.battery(dice.choice((0, 0, 1, 2, 3, 3, 4, 256)), None), 1.2), (key, 1), (lend, 2.2),
             (lambda: s.frame(None), 2.5), (nonce, 1)]
     for _ in range(dice.randrange(10, 45)):

@@ -43,7 +43,8 @@ class Model:
         self.clear()
 
     def clear(self):
-        self.keys, self.owner, self.identity = [], None, None
+        self.keys, self.owner = [], None
+        self.identity, self.waiting = None, None  # the key in force, and the one that waits for the disconnect
         self.ring = None  # mask, tenths left, nonce
         self.protection = None  # the skip flag
         self.consent = 0
@@ -107,8 +108,7 @@ class Model:
                 need(len(tail) == 32)
             else:
                 need(len(tail) == 40 and tail[32:] == self.proof())
-            self.identity = decrypt(self.owner, tail[:32])
-            self.ring = self.lent = None
+            self.waiting = decrypt(self.owner, tail[:32])
             return response(self.owner, self.nonce, 2)
         need(self.identity is not None)
         if ident == 3:
@@ -154,6 +154,11 @@ class Model:
             return told
         self.consent = 600
         return b""
+
+    def disconnect(self):
+        if self.waiting is not None:
+            self.identity, self.waiting = self.waiting, None
+            self.ring = self.lent = None
 
     def elapsed(self, tenths):
         """The tenth at which a ring ended, or 0, and the notice."""

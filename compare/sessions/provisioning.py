@@ -25,7 +25,7 @@ def provision_to_recovery():
 
 @stored
 def provision_again_with_proof():
-    """0x02 of 48: a new identity key, the same one again, and the sub keys that follow it."""
+    """0x02 of 48: a new identity key, the same one again, and the sub keys that follow it; a disconnect after each."""
     s = owned()
     s.set_identity(IDENTITY_2)
     s.ring(1, 10)

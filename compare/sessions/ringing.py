@@ -181,7 +181,7 @@ def protection_off():
 
 @stored
 def protection_outlives_a_new_identity_key():
-    """0x02 keeps protection with its flag; the old sub keys no longer serve."""
+    """A new identity key keeps protection with its flag; the old sub keys no longer serve."""
     s = owned()
     s.protect(b"\x01")
     old = s.sub(3)

@@ -65,6 +65,9 @@ class Session:
     def button(self):
         self.run("button", [], self.tag.button, OK)
 
+    def disconnect(self):
+        self.run("disconnect", [], self.tag.disconnect, OK)
+
     def pairing(self, on):
         def call():
             self.tag.pairing = on == 1
@@ -123,11 +126,16 @@ class Session:
         """0x04 as by a phone that holds this identity key, whatever the tag holds."""
         self.ask(sha(identity, b"\x01")[:8], 4, b"", expect)
 
-    def set_identity(self, identity, expect=OK):
-        """0x02 of 40 or, where a key is held, of 48."""
+    def offer_identity(self, identity, expect=OK):
+        """0x02 of 40 or, where a key is in force, of 48."""
         held = self.tag.identity is not None
         self.ask(self.tag.owner, 2,
                  lambda nonce: encrypt(self.tag.owner, identity) + (self.tag.proof() if held else b""), expect)
+
+    def set_identity(self, identity):
+        """0x02 and the disconnect that brings the key in."""
+        self.offer_identity(identity)
+        self.disconnect()
 
     def clear(self, expect=OK):
         self.ask(self.tag.owner, 3, lambda nonce: self.tag.proof(), expect)

@@ -66,6 +66,8 @@ static void provision(void) {
     for (int half = 0; half < 32; half += 16)
         expect("encrypt", tag_aes128_encrypt(account_key, 16, identity + half, 16, data + half, 16));
     expect("set key", request(0x02, account_key, 16, data, sizeof data));
+    printf("key accepted: it %s\n", record[TAG_WAITING_HELD_AT] && !record[TAG_IDENTITY_HELD_AT] ? "waits for the phone to hang up" : "does not wait");
+    expect("disconnect", tag_disconnect(record, sizeof record));
     printf("provisioned: identity key %s\n", record[TAG_IDENTITY_HELD_AT] ? "held" : "missing");
 }
 

@@ -2,10 +2,11 @@
 //! the record. It plays the phone too, which makes the requests with the library's own primitives.
 use std::fs;
 
-const RECORD_SIZE: usize = 215;
+const RECORD_SIZE: usize = 248;
 const ANSWER_ROOM: usize = 42;
 const IDENTITY_HELD_AT: usize = 119;
-const SOUND_KIND_AT: usize = 152;
+const WAITING_HELD_AT: usize = 152;
+const SOUND_KIND_AT: usize = 185;
 
 // The declarations of include/tag.h: a slice passes as its pointer and its length.
 extern "C" {
@@ -15,6 +16,7 @@ extern "C" {
     fn tag_button(record: *mut u8, n: u64, answer: *mut u8, room: u64) -> u64;
     fn tag_elapsed(record: *mut u8, n: u64, tenths: u32, answer: *mut u8, room: u64) -> u64;
     fn tag_account_key(record: *mut u8, n: u64, key: *const u8, m: u64) -> u64;
+    fn tag_disconnect(record: *mut u8, n: u64) -> u64;
     fn tag_lend_identifier(record: *mut u8, n: u64, r: *const u8, m: u64, id: *const u8, k: u64) -> u64;
     fn tag_frame(record: *mut u8, n: u64, answer: *mut u8, room: u64) -> u64;
     fn tag_sha256(message: *const u8, n: u64, answer: *mut u8, room: u64) -> u64;
@@ -47,7 +49,7 @@ struct Host {
 
 impl Host {
     /// A call that takes the record alone.
-    fn settle(&mut self, call: impl FnOnce(*mut u8, u64) -> u64) -> Result<Given, u64> {
+    fn complete(&mut self, call: impl FnOnce(*mut u8, u64) -> u64) -> Result<Given, u64> {
         given(call(self.record.as_mut_ptr(), RECORD_SIZE as u64))
     }
 
@@ -97,11 +99,14 @@ fn blocks(cipher: Cipher, from: &[u8]) -> Result<[u8; 32], u64> {
 }
 
 fn provision(host: &mut Host) -> Result<(), u64> {
-    host.settle(|u, n| unsafe { tag_new(u, n, -20, 2, 1) })?;
-    host.settle(|u, n| unsafe { tag_account_key(u, n, ACCOUNT_KEY.as_ptr(), 16) })?;
+    host.complete(|u, n| unsafe { tag_new(u, n, -20, 2, 1) })?;
+    host.complete(|u, n| unsafe { tag_account_key(u, n, ACCOUNT_KEY.as_ptr(), 16) })?;
     host.request(0x01, &ACCOUNT_KEY, &[])?;
     println!("state read: bits 0x{:02x}, so the key used is the owner and no identity key is held", host.answer[10]);
     host.request(0x02, &ACCOUNT_KEY, &blocks(tag_aes128_encrypt, &IDENTITY)?)?;
+    let waits = host.record[WAITING_HELD_AT] == 1 && host.record[IDENTITY_HELD_AT] == 0;
+    println!("key accepted: it {}", if waits { "waits for the phone to hang up" } else { "does not wait" });
+    host.complete(|u, n| unsafe { tag_disconnect(u, n) })?;
     println!("provisioned: identity key {}", if host.record[IDENTITY_HELD_AT] == 1 { "held" } else { "missing" });
     Ok(())
 }
@@ -126,7 +131,7 @@ fn save_and_reload(host: &mut Host, path: &str) -> Result<(), u64> {
         println!("after a reboot, with flash that holds no record: the frame is refused with {refusal}");
     }
     host.record.copy_from_slice(&fs::read(path).expect("the record is read"));
-    host.settle(|u, n| unsafe { tag_lend_identifier(u, n, r.as_ptr(), 20, id.as_ptr(), 20) })?;
+    host.complete(|u, n| unsafe { tag_lend_identifier(u, n, r.as_ptr(), 20, id.as_ptr(), 20) })?;
     let frame = host.ask(|u, n, a, room| unsafe { tag_frame(u, n, a, room) })?;
     println!("record reloaded: a frame of {} bytes", frame.bytes);
     Ok(())

@@ -219,6 +219,7 @@ fn event(
             let result = tag::button(unit, &mut answer);
             answered(out, "button", result, &answer);
         }
+        b"disconnect" => done(out, "disconnect", tag::disconnect(unit)),
         b"pairing" => {
             let (at, value) = lines.value("on")?;
             let on = match value {

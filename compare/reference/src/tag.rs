@@ -45,8 +45,12 @@ pub struct Unit {
     pub keys: [[u8; 16]; SLOTS],
     pub has_owner: bool,
     pub owner: u64,
+    /// The identity key in force.
     pub has_identity: bool,
     pub identity: [u8; 32],
+    /// The identity key that waits for the connection to end.
+    pub has_waiting: bool,
+    pub waiting: [u8; 32],
     pub has_nonce: bool,
     pub nonce: [u8; 8],
     pub live: bool,
@@ -91,6 +95,8 @@ impl Unit {
             owner: 0,
             has_identity: false,
             identity: [0; 32],
+            has_waiting: false,
+            waiting: [0; 32],
             has_nonce: false,
             nonce: [0; 8],
             live: false,
@@ -146,6 +152,14 @@ impl Unit {
                 return false;
             }
         } else if self.identity != [0; 32] {
+            return false;
+        }
+        // A waiting key needs an owner, but no key in force.
+        if self.has_waiting {
+            if !self.has_owner {
+                return false;
+            }
+        } else if self.waiting != [0; 32] {
             return false;
         }
         // 5. Nonce.
@@ -424,10 +438,8 @@ pub fn write(unit: &mut Unit, data: &[u8], answer: &mut [u8]) -> Result<usize, u
             } else if unit.has_identity {
                 return Err(NOT_AUTHENTICATED);
             }
-            unit.has_identity = true;
-            unit.identity = decrypt_two(&owner_key, additional[..32].try_into().unwrap());
-            unit.make_silent();
-            unit.drop_identifier();
+            unit.has_waiting = true;
+            unit.waiting = decrypt_two(&owner_key, additional[..32].try_into().unwrap());
             make_answer(&owner_key, &nonce, id, &[])
         }
         0x03 => {
@@ -662,6 +674,24 @@ pub fn elapsed(unit: &mut Unit, tenths: u32, answer: &mut [u8]) -> Result<Passed
         Some((at, notice)) => Passed { written: put(answer, &notice), at },
         None => Passed { written: 0, at: 0 },
     })
+}
+
+// ---------------------------------------------------------------- disconnect
+
+/// The connection ended: a waiting key comes into force, sound ends and the identifier is dropped; without one nothing changes.
+pub fn disconnect(unit: &mut Unit) -> Result<(), u8> {
+    if !unit.well_formed() {
+        return Err(NOT_WELL_FORMED);
+    }
+    if unit.has_waiting {
+        unit.has_identity = true;
+        unit.identity = unit.waiting;
+        unit.has_waiting = false;
+        unit.waiting = [0; 32];
+        unit.make_silent();
+        unit.drop_identifier();
+    }
+    Ok(())
 }
 
 // ---------------------------------------------------------------- pairing, battery, account key

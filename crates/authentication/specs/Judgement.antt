@@ -9,6 +9,7 @@ use Rattle.tables.specs.Rows.{firstThat}
 use Rattle.wire.specs.Signing.{requestTag, keyProof, signed}
 use Rattle.wire.specs.Shape.{Request}
 use Rattle.unit.specs.declared.TagUnit.{TagUnit}
+use Rattle.unit.specs.Change.{keyInForce}
 use Rattle.unit.specs.Outcome.{Outcome, giving, refusing}
 use Rattle.unit.specs.WellFormed.{heldKeys, ownerKey}
 
@@ -45,7 +46,7 @@ tagged key nonce q = sameBytes (requestTag key nonce (q .id) (q .size) (q .addit
 
 -- whether bytes prove the identity key that is held
 abbrev pub proves : TagUnit → List ℕ → Bool
-proves u proof = sameBytes (keyProof (u .identity .bytes) (lastNonce u)) proof
+proves u proof = sameBytes (keyProof (keyInForce u) (lastNonce u)) proof
 
 -- "HMAC(key of the request, .. ID": the answer to a request, with the key that it was judged with
 abbrev pub answered : List ℕ → TagUnit → Request → List ℕ → List ℕ

@@ -16,7 +16,7 @@ use unit::TagUnit;
 use wire::Head;
 use wire::signing;
 
-// The recovery, ring or protection key of the identity key that is held.
+// The recovery, ring or protection key of the identity key in force.
 pub fn derived_key(u: TagUnit, number: u8) -> SigningKey
     ensures { λ r. ⌜ Signs (derivedKey number (u .identity .bytes)) r ⌝ }
 {
@@ -41,12 +41,12 @@ pub fn tagged(key: SigningKey, nonce: [u8; NONCE_SIZE], h: Head, additional: &[u
     account::tagged(&bytes[..size], nonce, h, additional)
 }
 
-// Whether bytes prove the identity key that is held.
+// Whether bytes prove the identity key in force.
 pub fn proves(u: TagUnit, proof: &[u8]) -> bool
     ensures { λ r. ⌜ r ≡ isProof u (now (proof .entry)) ⌝ }
 {
-    let k = u.identity;
-    let identity = k.bytes;
+    let in_force = u.identity;
+    let identity = in_force.bytes;
     let n = u.nonce;
     let nonce = n.bytes;
     let made = signing::key_proof(identity, nonce);

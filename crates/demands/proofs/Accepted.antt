@@ -27,7 +27,7 @@ use Rattle.unit.specs.Change.{spent, silenced, withNonce, withAccounts, withSou
 use Rattle.unit.specs.Outcome.{giving}
 use Rattle.unit.proofs.Lines.{lines, held-count}
 use Rattle.authentication.specs.Judgement.{accepts, tagged, usedKey, signedByOwner}
-use Rattle.provisioning.specs.Provisioning.{ownedBy, rekeyed, cleared, readParameters, readState, setKey, mayReplace, clearKey, recoverKey}
+use Rattle.provisioning.specs.Provisioning.{ownedBy, awaiting, cleared, readParameters, readState, setKey, mayReplace, clearKey, recoverKey}
 use Rattle.ringing.specs.Ringing.{skips, ring, rung, readSound}
 use Rattle.ringing.specs.Protecting.{protect, unprotect}
 use Rattle.requests.specs.Write.{byId, needsKey}
@@ -35,7 +35,7 @@ use Rattle.tag.specs.Own.{issuing, nonceFits}
 use Rattle.tag.specs.Calls.{read, own, guarded, call, Act, calls, act}
 use Rattle.demands.specs.History.{step, writes}
 use Rattle.demands.specs.Spelled.{keyAtPlace, OwnedWith, NonceSpent, OnlySpends}
-use Rattle.demands.specs.Accepted.{Serves, Open, sent, answer, First, ownerBit, standing, OwnerKnown, Rekeyed, Cleared, startNotice, stopNotice, RingLegal, ringBytes, Rings, Stopped, Protects, Accepted}
+use Rattle.demands.specs.Accepted.{Serves, Open, sent, answer, First, ownerBit, standing, OwnerKnown, Awaits, Cleared, startNotice, stopNotice, RingLegal, ringBytes, Rings, Stopped, Protects, Accepted}
 use Rattle.demands.proofs.Spelling.{parameters-are, timeout-is, meant, ring-legal, stop-legal, key-at, owner-at, claimed-owner, claimed-count, claimed-keys, owner-bit, standing-is, sound-state}
 use Rattle.demands.proofs.Judging.{opened, length-requestTag, length-keyProof, requestOf, judged-as, own-tag}
 
@@ -104,7 +104,7 @@ spends : (u v : TagUnit) → v .nonce ≡ spent u .nonce → NonceSpent u v
 spends u v e = record { held = rw e; bytes = rw e; dead = rw e }
 
 only-spends : (u : TagUnit) → OnlySpends u (spent u)
-only-spends u = record { nonceSpent = spends u _ refl; rest = (refl, refl, tt, refl, refl, refl, refl, refl, refl, refl, refl, refl) }
+only-spends u = record { nonceSpent = spends u _ refl; rest = (refl, refl, tt, refl, refl, refl, refl, refl, refl, refl, refl, refl, refl) }
 
 owner-known : (u : TagUnit) → wellFormed u ≡ true → (p : ℕ) → p < u .accounts .count
     → OwnerKnown p u (withAccounts (ownedBy (keyAtPlace u p) (u .accounts)) (spent u))
@@ -114,20 +114,14 @@ owner-known u right p held =
       count = claimed-count u (lines u right) p held (u .accounts .owner);
       keys = claimed-keys u (lines u right) p held (u .accounts .owner);
       owner = claimed-owner u (lines u right) p held (u .accounts .owner) refl;
-      rest = (refl, refl, tt, tt, refl, refl, refl, refl, refl, refl, refl, refl);
+      rest = (refl, refl, tt, tt, refl, refl, refl, refl, refl, refl, refl, refl, refl);
     }
 
 -- the first 32 bytes are the two blocks, whatever follows them
-rekeys : (u : TagUnit) (key C : List ℕ) → Rekeyed key C u (rekeyed (decryptedKey key C) (spent u))
+awaits : (u : TagUnit) (key C : List ℕ) → Awaits key C u (awaiting (decryptedKey key C) (spent u))
 unfolding decryptedKey
-rekeys u key C =
-    record {
-      nonceSpent = spends u _ refl;
-      identityIs = refl;
-      silent = (refl, refl);
-      unlent = refl;
-      rest = (refl, refl, tt, refl, tt, tt, tt, refl, refl, refl, refl, tt);
-    }
+awaits u key C =
+    record { nonceSpent = spends u _ refl; waitingIs = refl; rest = (refl, refl, tt, refl, refl, tt, refl, refl, refl, refl, refl, refl, refl) }
 
 two-blocks : (key C more : List ℕ) → length C ≡ 32 → decryptedKey key (C ++ more) ≡ decryptedKey key C
 unfolding decryptedKey
@@ -136,8 +130,8 @@ two-blocks key C more n =
     let second : 16 ≤ length (drop 16 C) = simp length-drop (omega arith) in
     rw (take-append-le, drop-append-le, take-append-le)
 
-rekeys-first : (u : TagUnit) (key C more : List ℕ) → length C ≡ 32 → Rekeyed key C u (rekeyed (decryptedKey key (C ++ more)) (spent u))
-rekeys-first u key C more n = rw (two-blocks key C more n) (rekeys u key C)
+awaits-first : (u : TagUnit) (key C more : List ℕ) → length C ≡ 32 → Awaits key C u (awaiting (decryptedKey key (C ++ more)) (spent u))
+awaits-first u key C more n = rw (two-blocks key C more n) (awaits u key C)
 
 clears : (u : TagUnit) → Cleared u (cleared (spent u))
 unfolding cleared
@@ -146,24 +140,25 @@ clears u =
       nonceSpent = spends u _ refl;
       keyless = refl;
       unset = refl;
+      noneWaits = refl;
       silent = (refl, refl);
       unprotected = refl;
       unconsented = refl;
       unlent = refl;
-      rest = (refl, refl, tt, tt, tt, tt, tt, tt, tt, refl, refl, tt);
+      rest = (refl, refl, tt, tt, tt, tt, tt, tt, tt, tt, refl, refl, tt);
     }
 
 protects-as : (p : Protection) (u : TagUnit) → Protects p u (withProtection p (spent u))
 protects-as p u =
-    record { nonceSpent = spends u _ refl; protectionIs = refl; rest = (refl, refl, tt, refl, refl, refl, refl, tt, refl, refl, refl, refl) }
+    record { nonceSpent = spends u _ refl; protectionIs = refl; rest = (refl, refl, tt, refl, refl, refl, refl, refl, tt, refl, refl, refl, refl) }
 
 stopped : (u : TagUnit) → Stopped u (silenced (spent u))
-stopped u = record { nonceSpent = spends u _ refl; silent = (refl, refl); rest = (refl, refl, tt, refl, refl, tt, tt, refl, refl, refl, refl, refl) }
+stopped u = record { nonceSpent = spends u _ refl; silent = (refl, refl); rest = (refl, refl, tt, refl, refl, refl, tt, tt, refl, refl, refl, refl, refl) }
 
 rings-as : (mask timeout volume : ℕ) (u : TagUnit)
     → Rings mask timeout volume u (withSound (Sound.Ringing mask (cond (eqb (u .settings .selectable) 0) 0 volume) timeout) (u .nonce .bytes) (spent u))
 rings-as mask timeout volume u =
-    record { nonceSpent = spends u _ refl; soundIs = refl; nonceKept = refl; rest = (refl, refl, tt, refl, refl, tt, tt, refl, refl, refl, refl, refl) }
+    record { nonceSpent = spends u _ refl; soundIs = refl; nonceKept = refl; rest = (refl, refl, tt, refl, refl, refl, tt, tt, refl, refl, refl, refl, refl) }
 
 -- consent left or pairing on, as a test
 consenting : (consent : ℕ) (pairing : Bool) → (0 < consent) ⊎ (pairing ≡ true) → (ltb 0 consent || pairing) ≡ true
@@ -213,7 +208,7 @@ serves-state u room p ready first left =
     left
 
 pub serves-key : (u : TagUnit) (room : ℕ) (key C : List ℕ) {Left : TagUnit → Type 0} → Open u room → OwnedWith u key → u .identity .held ≡ false
-    → length C ≡ 32 → Left (rekeyed (decryptedKey key C) (spent u))
+    → length C ≡ 32 → Left (awaiting (decryptedKey key C) (spent u))
     → Serves (writes (sent u 0x02 key C) room) u (answer u 0x02 key []) Left
 unfolding byId sizeLegal oneOf legalSizes setKey mayReplace signed answerTag
 serves-key u room key C ready owner none n left =
@@ -227,18 +222,18 @@ accepted =
     record {
       nonceRead = λ u room lent right fits long other.
           serves (reads u room lent right fits long (not-last (u .nonce .held) (u .nonce .bytes) lent other))
-          (record { nonceIs = refl; rest = (refl, refl, tt, refl, refl, refl, refl, refl, refl, refl, refl, refl) });
+          (record { nonceIs = refl; rest = (refl, refl, tt, refl, refl, refl, refl, refl, refl, refl, refl, refl, refl) });
       parametersRead = λ u room p ready first.
           signed-as u room 0x00 8 (keyAtPlace u p) [] refl ready refl refl
           (rw (first-tagged u 0x00 p first, parameters-are u)) (only-spends u);
       stateRead = λ u room p ready first. serves-state u room p ready first (owner-known u (ready .formed) p (first .0));
-      keySet = λ u room key C ready owner none n. serves-key u room key C ready owner none n (rekeys u key C);
+      keySet = λ u room key C ready owner none n. serves-key u room key C ready owner none n (awaits u key C);
       keyReplaced = λ u room key C ready owner held n.
           let proof = keyProof (u .identity .bytes) (u .nonce .bytes) in
           let sized = proven-sized C proof n (length-keyProof (u .identity .bytes) (u .nonce .bytes)) in
           signed-as u room 0x02 48 key (C ++ proof) sized ready refl refl
           (rw (owner-tagged u 0x02 48 key (C ++ proof) (owner-at u key (ready .formed) owner), held, drop-at C proof 32 n, same-refl proof))
-          (rekeys-first u key C proof n);
+          (awaits-first u key C proof n);
       keyCleared = λ u room key ready owner held.
           let proof = keyProof (u .identity .bytes) (u .nonce .bytes) in
           let sized = ap (λ (n : ℕ). 8 + n) (length-keyProof (u .identity .bytes) (u .nonce .bytes)) in

@@ -1,4 +1,4 @@
--- What a call does to the nonce, for all nine kinds: a successful read makes its own live, a write that passes 6 and 2 leaves none live,
+-- What a call does to the nonce, for all kinds: a successful read makes its own live, a write that passes 6 and 2 leaves none live,
 -- and every other call, refused ones too, leaves it as it is.
 use Prim.Native.Nat.{ℕ, _≤_}
 use mathlib.Core.Path.{_≡_, refl, ap, _∙_}
@@ -18,12 +18,12 @@ use Rattle.unit.specs.Outcome.{Outcome, giving, refusing}
 use Rattle.authentication.specs.Judgement.{accepts}
 use Rattle.provisioning.specs.Provisioning.{cleared}
 use Rattle.tag.specs.Own.{nonceFits, issuing}
-use Rattle.tag.specs.Calls.{Written, read, write, accountKey, own, Act, calls}
+use Rattle.tag.specs.Calls.{Written, read, write, accountKey, disconnect, own, Act, calls}
 use Rattle.demands.specs.History.{step}
 use Rattle.demands.specs.Nonces.{Succeeds, PassesGuards, passes, Issues, issues}
 use Rattle.demands.proofs.Guards.{roomFor, ownOf, met, Met, barred, passed, not-both}
 use Rattle.demands.proofs.WritesOnKeys.{Did, set, clear, recovered, other, Ended, turned, served, ends-written}
-use Rattle.demands.proofs.OtherCalls.{kind, Sorted, aRead, aWrite, aKey, aside, sorted, Keeping, same, more, keeps}
+use Rattle.demands.proofs.OtherCalls.{kind, Sorted, aRead, aWrite, aKey, aDisconnect, aside, sorted, Keeping, same, more, keeps, Disconnecting, nothingIn, keyIn, disconnects}
 
 abbrev pub issued : List ℕ → Nonce
 issued nonce = record { held = true; live = true; bytes = nonce }
@@ -67,6 +67,10 @@ kept-nonce : {key : List ℕ} {u : TagUnit} {o : Outcome} → Keeping key u o �
 kept-nonce same = refl
 kept-nonce (more n few) = refl
 
+disconnected-nonce : {u v : TagUnit} → Disconnecting u v → v .nonce ≡ u .nonce
+disconnected-nonce (nothingIn none) = refl
+disconnected-nonce (keyIn held) = refl
+
 -- A call of another kind
 untouched : (c : Act) (u : TagUnit) → 2 ≤ kind c → ownOf c u .unit .nonce ≡ u .nonce → Noncing c u
 untouched c u t kept = go (met c u)
@@ -108,6 +112,7 @@ unfolding own
 by-kind (aRead {nonce} {room}) u = reading nonce room u
 by-kind (aWrite {w} {room}) u = writing w room u
 by-kind (aKey {key} {room}) u = untouched (calls (accountKey key) room) u (omega arith) (kept-nonce (keeps key u))
+by-kind (aDisconnect {room}) u = untouched (calls disconnect room) u (omega arith) (disconnected-nonce (disconnects u))
 by-kind (aside {a} k leaves) u = untouched a u (omega arith) (leaves u .nonce)
 
 pub noncing : (c : Act) (u : TagUnit) → Noncing c u

@@ -1,9 +1,9 @@
--- What each call does to sound, consent and notices on a well-formed unit: a press while silent, a press while ringing, and the accepted 0x05,
--- 0x02 and 0x03 do what they are for; every other call, refused ones too, leaves sound and consent and gives no ring notice. And what time
--- does, with room and without.
+-- What each call does to sound, consent and notices on a well-formed unit: a press while silent, a press while ringing, the accepted 0x05 and
+-- 0x03, and a disconnect that brings a key in do what they are for; every other call, refused ones too, leaves sound and consent and gives no
+-- ring notice. And what time does, with room and without.
 use Prim.Native.Nat.{ℕ, _+_, _≤_}
 use mathlib.Core.Path.{_≡_, refl, ap, _∙_}
-use mathlib.Core.Bool.{true, not, _&&_}
+use mathlib.Core.Bool.{Bool, true, false, cond, not, _&&_}
 use mathlib.Core.List.{List, [], _∷_}
 use native.Mathlib.Omega.{arith}
 use lib.Dec.{eqb, leb, ltb}
@@ -22,14 +22,14 @@ use Rattle.unit.specs.Standing.{stands}
 use Rattle.unit.specs.Outcome.{Outcome, giving, refusing}
 use Rattle.frame.specs.Frame.{rendered}
 use Rattle.time.specs.Time.{tenths}
-use Rattle.tag.specs.Own.{nonceFits, issuing, pressed, showing, lending, charged, keeping}
-use Rattle.tag.specs.Calls.{Written, Call, read, write, button, pairing, battery, accountKey, identifier, frame, own, Act, calls, waits}
+use Rattle.tag.specs.Own.{nonceFits, issuing, pressed, showing, lending, charged, keeping, broughtIn as bringing, disconnected}
+use Rattle.tag.specs.Calls.{Written, Call, read, write, button, pairing, battery, accountKey, disconnect, identifier, frame, own, Act, calls, waits}
 use Rattle.demands.specs.History.{step}
 use Rattle.demands.specs.Time.{noticed}
-use Rattle.demands.specs.Among.{Accepts, accepts, Presses, presses, tenthsIn}
+use Rattle.demands.specs.Among.{Accepts, accepts, Presses, presses, BringsIn, bringsIn, tenthsIn}
 use Rattle.demands.proofs.Choices.{tested}
 use Rattle.demands.proofs.Guards.{roomFor, Met, barred, passed, met}
-use Rattle.demands.proofs.WritesOnSound.{Left, Effect, apart, rings, stops, rekeys, clears, Written as WriteEnd, turned, served, written-so}
+use Rattle.demands.proofs.WritesOnSound.{Left, Effect, apart, rings, stops, clears, Written as WriteEnd, turned, served, written-so}
 
 -- sound and consent left, and no ring notice
 pub record Calm (u : TagUnit) (o : Outcome) : Type 0 where
@@ -41,8 +41,8 @@ pub data Does (a : Act) (u : TagUnit) : Type 0 where
   pressedSilent : Presses a → u .sound ≡ Sound.Silent → Does a u
   pressedRinging : Presses a → step a u .unit .consent ≡ u .consent → Does a u
   rung : Accepts 0x05 a u → step a u .unit .consent ≡ u .consent → Does a u
-  keySet : Accepts 0x02 a u → step a u .unit .consent ≡ u .consent → Does a u
   cleared : Accepts 0x03 a u → step a u .unit .consent ≡ 0 → Does a u
+  broughtIn : BringsIn a u → step a u .unit .consent ≡ u .consent → Does a u
 
 calm-refusal : (n : ℕ) (u : TagUnit) → Calm u (refusing n u)
 calm-refusal n u = record { leaves = search; quiet = refl }
@@ -105,14 +105,21 @@ module _ (w : Written) (room : ℕ) (u : TagUnit) where
       (ap (λ (x : Outcome). x .unit .consent) o ∙ ap (λ (x : TagUnit). x .consent) is)
   effect-does {v} {answer} o (stops id legal none is) =
       rung (accepts id (answer, ap (λ (x : Outcome). x .result) o)) (ap (λ (x : Outcome). x .unit .consent) o ∙ is)
-  effect-does {v} {answer} o (rekeys id is) =
-      keySet (accepts id (answer, ap (λ (x : Outcome). x .result) o)) (ap (λ (x : Outcome). x .unit .consent) o ∙ is)
   effect-does {v} {answer} o (clears id is) =
       cleared (accepts id (answer, ap (λ (x : Outcome). x .result) o)) (ap (λ (x : Outcome). x .unit .consent) o ∙ is)
 
   write-does : {o : Outcome} → step this u ≡ o → WriteEnd u (w .bytes) o → Does this u
   write-does e (turned n) = calmly (rw e (record { leaves = search; quiet = refl }))
   write-does e (served s l auth effect) = effect-does e effect
+
+-- The disconnect that passes
+disconnect-does : (room : ℕ) (u : TagUnit) → wellFormed u ≡ true → step (calls disconnect room) u ≡ disconnected u → Does (calls disconnect room) u
+unfolding disconnected
+disconnect-does room u formed e = go (u .waiting .held) refl e
+  where
+    go : (b : Bool) → u .waiting .held ≡ b → step (calls disconnect room) u ≡ giving [] (cond b (bringing u) u) → Does (calls disconnect room) u
+    go true held o = broughtIn (bringsIn formed held) (ap (λ (x : Outcome). x .unit .consent) o)
+    go false none o = calmly (rw o (record { leaves = search; quiet = refl }))
 
 -- Each call that passes
 own-does : (c : Call) (room : ℕ) (u : TagUnit) → 42 ≤ roomFor (calls c room) → wellFormed u ≡ true → step (calls c room) u ≡ own c u
@@ -124,6 +131,7 @@ own-does button room u fits formed e = press-does room u fits e
 own-does (pairing on) room u fits formed e = calmly (rw e (record { leaves = search; quiet = refl }))
 own-does (battery level) room u fits formed e = calmly (rw e (battery-calm u level))
 own-does (accountKey key) room u fits formed e = calmly (rw e (key-calm u key))
+own-does disconnect room u fits formed e = disconnect-does room u formed e
 own-does (identifier r id) room u fits formed e = calmly (rw e (lending-calm u r id))
 own-does frame room u fits formed e = calmly (rw e (frame-calm u))
 

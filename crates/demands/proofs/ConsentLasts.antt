@@ -29,7 +29,7 @@ use Rattle.demands.proofs.Guards.{Met, barred, passed, met}
 use Rattle.demands.proofs.Judging.{opened, length-requestTag, requestOf, bytesOf, parts, shape, own-tag}
 use Rattle.demands.proofs.KeyPlaces.{owner-key}
 use Rattle.demands.proofs.RingTenths.{tenths-consent}
-use Rattle.demands.proofs.CallsOnSound.{Does, calmly, pressedSilent, pressedRinging, rung, keySet, cleared, call-does, tenthsOf, begins, time-passes, time-stands}
+use Rattle.demands.proofs.CallsOnSound.{Does, calmly, pressedSilent, pressedRinging, rung, cleared, broughtIn, call-does, tenthsOf, begins, time-passes, time-stands}
 
 -- One act
 time-consent : (n room : ℕ) (u : TagUnit) → wellFormed u ≡ true → step (waits n room) u .unit .consent ≡ u .consent - tenthsOf (waits n room)
@@ -49,16 +49,16 @@ module _ (a : Act) (u : TagUnit) where
   call-keeps (pressedSilent p s) free kept = absurd (free (consents p s))
   call-keeps (pressedRinging p e) free kept = e
   call-keeps (rung x e) free kept = e
-  call-keeps (keySet x e) free kept = e
   call-keeps (cleared x e) free kept = absurd (kept x)
+  call-keeps (broughtIn x e) free kept = e
 
   call-adds-none : Does a u → (Consents a u → ⊥) → step a u .unit .consent ≤ u .consent
   call-adds-none (calmly calm) free = omega (arith, calm .leaves .consent)
   call-adds-none (pressedSilent p s) free = absurd (free (consents p s))
   call-adds-none (pressedRinging p e) free = omega arith
   call-adds-none (rung x e) free = omega arith
-  call-adds-none (keySet x e) free = omega arith
   call-adds-none (cleared x e) free = omega arith
+  call-adds-none (broughtIn x e) free = omega arith
 
 act-keeps : (a : Act) (u : TagUnit) → wellFormed u ≡ true → (Consents a u → ⊥) → (Accepts 0x03 a u → ⊥) → step a u .unit .consent ≡ u .consent - tenthsOf a
 act-keeps (calls c room) u w free kept = call-keeps (calls c room) u (call-does c room u) free kept ∙ omega arith

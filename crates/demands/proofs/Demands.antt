@@ -6,6 +6,7 @@ use Rattle.demands.proofs.Accepted.{accepted}
 use Rattle.demands.proofs.Nonces.{nonces}
 use Rattle.demands.proofs.Recovery.{recovery}
 use Rattle.demands.proofs.RecoveryExample.{example}
+use Rattle.demands.proofs.WaitingKey.{waiting-key}
 use Rattle.demands.proofs.ConsentLasts.{consent-lasts}
 use Rattle.demands.proofs.Edges.{edges}
 use Rattle.demands.proofs.Time.{demand3}
@@ -28,6 +29,7 @@ demands =
       nonces = nonces;
       recovered = recovery;
       recoveredOnce = example;
+      waitingKey = waiting-key;
       consentLasts = consent-lasts;
       edges = edges;
       sleeps = demand3;

@@ -1,5 +1,5 @@
--- The button, pairing, battery, account keys, the lent identifier, the frame and one tenth, in literal numbers: each call passes its guards and does its
--- own, whose definition, opened, is what the literal terms say.
+-- The button, pairing, battery, account keys, the disconnect, the lent identifier, the frame and one tenth, in literal numbers: each call passes
+-- its guards and does its own, whose definition, opened, is what the literal terms say.
 use Prim.Native.Nat.{ℕ, suc, _+_, _*_, _-_, _/_, _%_, _≤_, _<_}
 use mathlib.Core.Path.{_≡_, refl, sym, _∙_}
 use mathlib.Core.Bool.{Bool, true, false}
@@ -25,12 +25,12 @@ use Rattle.unit.specs.Outcome.{Outcome, giving, formed}
 use Rattle.unit.proofs.Lines.{lines, held-count, identifier-held}
 use Rattle.frame.specs.Frame.{rendered, flagsFor}
 use Rattle.time.specs.Time.{clockOn, endsNext, soundOn, ringOn, oneTenth, timeoutNotice, afterTenth, tenths}
-use Rattle.tag.specs.Own.{pressed, charged, keeping, lending, protected, showing}
-use Rattle.tag.specs.Calls.{newUnit, Call, button, accountKey, frame, own, guarded, call, elapsed, calls, waits, act}
+use Rattle.tag.specs.Own.{pressed, charged, keeping, disconnected, lending, protected, showing}
+use Rattle.tag.specs.Calls.{newUnit, Call, button, accountKey, disconnect, frame, own, guarded, call, elapsed, calls, waits, act}
 use Rattle.demands.specs.History.{step}
 use Rattle.demands.specs.Spelled.{keyAtPlace}
 use Rattle.demands.specs.Accepted.{Serves, windowOf, stopNotice}
-use Rattle.demands.specs.Events.{PowerWithin, Fresh, Hushed, Consents, Keeps, Lends, Same, Shows, masked, TenthPasses, Ticks, Events}
+use Rattle.demands.specs.Events.{PowerWithin, Fresh, Hushed, Consents, Keeps, BroughtIn, Lends, Same, Shows, masked, TenthPasses, Ticks, Events}
 use Rattle.demands.proofs.Judging.{opened}
 use Rattle.demands.proofs.Spelling.{key-at}
 use Rattle.demands.proofs.Accepted.{serves}
@@ -59,6 +59,7 @@ fresh-is power components selectable =
       noNonce = refl;
       noAccounts = refl;
       noIdentity = refl;
+      noneWaits = refl;
       silent = (refl, refl);
       unprotected = refl;
       unconsented = refl;
@@ -73,14 +74,14 @@ stops-it : (u : TagUnit) (room mask volume left : ℕ) → wellFormed u ≡ true
 unfolding act call guarded own pressed ringNotice signed answerTag derivedKey bigEndian
 stops-it u room mask volume left right fits e =
     serves (opened u room (pressed (u .sound) u) right fits ∙ rw e)
-    (record { silent = (refl, refl); rest = (refl, refl, refl, refl, refl, tt, tt, refl, refl, refl, refl, refl) })
+    (record { silent = (refl, refl); rest = (refl, refl, refl, refl, refl, refl, tt, tt, refl, refl, refl, refl, refl) })
 
 consents : (u : TagUnit) (room : ℕ) → wellFormed u ≡ true → 42 ≤ room → u .sound ≡ Sound.Silent
     → Serves (calls button room) u [] (Consents u)
 unfolding act call guarded own pressed
 consents u room right fits e =
     serves (opened u room (pressed (u .sound) u) right fits ∙ rw e)
-    (record { tenths = refl; rest = (refl, refl, refl, refl, refl, refl, refl, refl, tt, refl, refl, refl) })
+    (record { tenths = refl; rest = (refl, refl, refl, refl, refl, refl, refl, refl, refl, tt, refl, refl, refl) })
 
 -- Account keys: one that stands at no place is not among those held
 not-among : (key : List ℕ) (l : List (List ℕ)) → ((i : ℕ) → i < length l → getD l i [] ≡ key → ⊥) → among key l ≡ false
@@ -114,8 +115,25 @@ added u room key right long few other =
       count = refl;
       owner = refl;
       keys = rw (from, long);
-      rest = (refl, refl, refl, tt, refl, refl, refl, refl, refl, refl, refl, refl);
+      rest = (refl, refl, refl, tt, refl, refl, refl, refl, refl, refl, refl, refl, refl);
     })
+
+-- The disconnect, with a key that waits and without
+brings-it-in : (u : TagUnit) (room : ℕ) → wellFormed u ≡ true → u .waiting .held ≡ true → Serves (calls disconnect room) u [] (BroughtIn u)
+unfolding act call guarded own disconnected
+brings-it-in u room right held =
+    serves (settles u (disconnected u) right ∙ rw held)
+    (record {
+      inForce = λ i. record { held = held i; bytes = u .waiting .bytes };
+      noneWaits = refl;
+      silent = (refl, refl);
+      unlent = refl;
+      rest = (refl, refl, refl, refl, tt, tt, tt, tt, refl, refl, refl, refl, tt);
+    })
+
+brings-nothing-in : (u : TagUnit) (room : ℕ) → wellFormed u ≡ true → u .waiting .held ≡ false → Serves (calls disconnect room) u [] (Same u)
+unfolding act call guarded own disconnected
+brings-nothing-in u room right none = serves (settles u (disconnected u) right ∙ rw none) refl
 
 -- The lent identifier, and the frame of one that stands
 lends-it : (u : TagUnit) (room : ℕ) (r id : List ℕ) → wellFormed u ≡ true → length r ≡ 20 → length id ≡ 20 → u .identity .held ≡ true
@@ -123,7 +141,7 @@ lends-it : (u : TagUnit) (room : ℕ) (r id : List ℕ) → wellFormed u ≡ tru
 unfolding act call guarded own lending
 lends-it u room r id right long₁ long₂ held =
     serves (settles u (lending r id u) right ∙ rw (eq-eqb (length r) 20 long₁, eq-eqb (length id) 20 long₂, held))
-    (record { identifierIs = refl; rest = (refl, refl, refl, refl, refl, refl, refl, refl, refl, refl, refl, tt) })
+    (record { identifierIs = refl; rest = (refl, refl, refl, refl, refl, refl, refl, refl, refl, refl, refl, refl, tt) })
 
 abbrev shown : ℕ → Bool → List ℕ → List ℕ → List ℕ
 shown level on r id = rendered id on (flagsFor level on r)
@@ -192,7 +210,7 @@ passes u room answer ended s with t e =
       tenth = rw e (on .0);
       seconds = rw e (on .1);
       consentLeft = rw e;
-      rest = rw e (refl, tt, refl, refl, refl, tt, tt, refl, tt, refl, refl, refl);
+      rest = rw e (refl, tt, refl, refl, refl, refl, tt, tt, refl, tt, refl, refl, refl);
     }
 
 goes-on : (u : TagUnit) (room : ℕ) (s : Sound) → Ticks u room → endsNext (u .sound) ≡ false → soundOn (u .sound) ≡ s
@@ -216,12 +234,14 @@ events =
       buttonConsents = consents;
       pairingSet = λ u room on right.
           serves (settles u (giving [] (withPairing on u)) right)
-          (record { flag = refl; rest = (refl, refl, refl, refl, refl, refl, refl, refl, refl, tt, refl, refl) });
+          (record { flag = refl; rest = (refl, refl, refl, refl, refl, refl, refl, refl, refl, refl, tt, refl, refl) });
       batterySet = λ u room level right low.
           serves (settles u (charged level u) right ∙ rw (le-leb level 3 low))
-          (record { levelIs = refl; rest = (refl, refl, refl, refl, refl, refl, refl, refl, refl, refl, tt, refl) });
+          (record { levelIs = refl; rest = (refl, refl, refl, refl, refl, refl, refl, refl, refl, refl, refl, tt, refl) });
       keyHeld = held-already;
       keyAdded = added;
+      keyBroughtIn = brings-it-in;
+      nothingBroughtIn = brings-nothing-in;
       identifierLent = lends-it;
       frameBare = λ u room s none off. shows-it u room 0 false s none (rw off) (bare-bytes (u .identifier .r) (u .identifier .id));
       frameFlagged = λ u room s more off.

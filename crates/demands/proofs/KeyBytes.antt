@@ -1,33 +1,32 @@
 -- Every account key that a unit holds after a history of bytes is sixteen bytes: the table of keys has only bytes in it, since a key comes in
 -- only by a call that is lent bytes; and a well-formed unit's keys are sixteen each.
 use Prim.Native.Nat.{ℕ, zero, suc, _+_, _*_, _<_}
-use mathlib.Core.Path.{_≡_, refl, sym, ap, _∙_}
+use mathlib.Core.Path.{_≡_, sym, ap, _∙_}
 use mathlib.Core.Bool.{true}
 use mathlib.Core.List.{List, [], _∷_}
-use mathlib.Core.Option.{some, none}
+use mathlib.Core.Option.{some}
 use native.Mathlib.Omega.{arith}
 use lib.ListN.{length, getD, take, drop, replicate}
 use borrow.Author.Tests.{ltb-true}
 use Rattle.sizes.specs.Sizes.{accountKeySize}
 use Rattle.octets.specs.Put.{pasted}
-use Rattle.tables.specs.Rows.{rows}
 use Rattle.tables.proofs.Rows.{row-at}
 use Rattle.unit.specs.declared.TagUnit.{TagUnit}
 use Rattle.unit.specs.declared.Settings.{Settings}
 use Rattle.unit.specs.declared.Accounts.{Accounts}
 use Rattle.unit.specs.declared.Owner.{Owner}
 use Rattle.unit.specs.WellFormed.{wellFormed, heldKeys, rowOf, ownerKey, ownerLegal, placeLegal}
-use Rattle.unit.specs.Change.{fresh, noAccounts, withNewKey}
+use Rattle.unit.specs.Change.{fresh}
 use Rattle.unit.specs.Outcome.{Outcome}
 use Rattle.unit.proofs.Lines.{lines, AccountsLines, key-length, held-count}
 use Rattle.provisioning.specs.Provisioning.{cleared}
 use Rattle.tag.specs.Own.{nonceFits, issuing}
-use Rattle.tag.specs.Calls.{own, Act, calls}
+use Rattle.tag.specs.Calls.{own, Act}
 use Rattle.demands.specs.History.{step, after, Bytes, OfBytes, AllOfBytes}
 use Rattle.demands.proofs.Guards.{ownOf, met, Met, barred, passed}
 use Rattle.demands.proofs.OfBytes.{bytes-take, bytes-drop, bytes-cons, bytes-append}
 use Rattle.demands.proofs.WritesOnKeys.{choose, set, clear, recovered, other, Ended, turned, served, ends-written}
-use Rattle.demands.proofs.OtherCalls.{Sorted, aRead, aWrite, aKey, aside, sorted, Keeping, same, more, keeps}
+use Rattle.demands.proofs.OtherCalls.{Sorted, aRead, aWrite, aKey, aDisconnect, aside, sorted, Keeping, same, more, keeps, Disconnecting, nothingIn, keyIn, disconnects}
 
 -- a key of sixteen bytes
 pub record Sixteen (key : List ℕ) : Type 0 where
@@ -62,11 +61,16 @@ written-filled (served sh l (clear e)) s = zeros 80
 written-filled (served sh l (recovered key e o)) s = s
 written-filled (served sh l (other k a)) s = rw (a .table) s
 
+disconnected-filled : {u v : TagUnit} → Disconnecting u v → Filled u → Filled v
+disconnected-filled (nothingIn none) s = s
+disconnected-filled (keyIn held) s = s
+
 own-filled : {a : Act} → Sorted a → (u : TagUnit) → OfBytes a → Filled u → Filled (ownOf a u .unit)
 unfolding own
 own-filled (aRead {nonce}) u b s = read-filled nonce u s
 own-filled (aWrite {w}) u b s = written-filled (ends-written u (w .bytes)) s
 own-filled (aKey {key}) u b s = keeping-filled (keeps key u) b s
+own-filled aDisconnect u b s = disconnected-filled (disconnects u) s
 own-filled (aside k leaves) u b s = rw (leaves u .table) s
 
 step-filled : (a : Act) (u : TagUnit) → OfBytes a → Filled u → Filled (step a u .unit)

@@ -1,44 +1,48 @@
--- "While a key stays set": an act that is no accepted 0x02 or 0x03 keeps the identity key and the owner's key. Account keys are only added
--- behind, so that the owner's stays at its place.
+-- "While a key stays set": what each act does to the key in force, the waiting key and the owner's key, and what follows over a list. The
+-- owner's key stays until 0x03 is accepted, for account keys are only added behind it; the key in force until then or until a disconnect
+-- brings another in; the waiting key until it is brought in, replaced or dropped.
 use Prim.Native.Nat.{ℕ, _<_}
 use mathlib.Core.Path.{_≡_, refl, ap, _∙_}
-use mathlib.Core.Bool.{true}
+use mathlib.Core.Bool.{true, false}
 use mathlib.Core.List.{List, [], _∷_, _++_}
-use mathlib.Core.Logic.{inl, inr}
-use mathlib.Core.Option.{some, none}
+use mathlib.Core.Option.{some}
 use native.Mathlib.Omega.{arith}
-use lib.ListN.{length, getD, List·getD-append}
+use lib.ListN.{length, List·getD-append}
 use borrow.Author.Tests.{ltb-true}
+use Rattle.laws.proofs.Flags.{clash}
 use Rattle.sizes.specs.Sizes.{accountKeySize, mostKeys}
+use Rattle.wire.specs.Shape.{parsed}
 use Rattle.unit.specs.declared.TagUnit.{TagUnit}
 use Rattle.unit.specs.declared.Accounts.{Accounts}
 use Rattle.unit.specs.declared.Owner.{Owner}
+use Rattle.unit.specs.declared.Identity.{Identity}
 use Rattle.unit.specs.WellFormed.{wellFormed, heldKeys, rowOf, ownerKey, ownerLegal, placeLegal}
 use Rattle.unit.specs.Change.{withNewKey}
 use Rattle.unit.specs.Outcome.{Outcome}
 use Rattle.unit.proofs.Lines.{lines, AccountsLines, held-count}
 use Rattle.unit.proofs.Adding.{held-after}
+use Rattle.provisioning.specs.Provisioning.{cleared}
 use Rattle.tag.specs.Own.{nonceFits, issuing}
-use Rattle.tag.specs.Calls.{Written, write, own, Act, calls}
+use Rattle.tag.specs.Calls.{Written, write, disconnect, own, Act, calls}
 use Rattle.demands.specs.History.{step, after}
-use Rattle.demands.specs.Recovery.{Rekeys, rekeys, Keeps}
+use Rattle.demands.specs.Among.{NoneIn, Accepts, accepts, BringsIn, bringsIn}
 use Rattle.demands.proofs.Guards.{ownOf, met, Met, barred, passed}
-use Rattle.demands.proofs.WritesOnKeys.{Alone, choose, set, clear, recovered, other, Ended, turned, served, ends-written}
-use Rattle.demands.proofs.OtherCalls.{Sorted, aRead, aWrite, aKey, aside, sorted, Keeping, same, more, keeps}
+use Rattle.demands.proofs.WritesOnKeys.{choose, set, clear, recovered, other, Ended, turned, served, ends-written}
+use Rattle.demands.proofs.OtherCalls.{Sorted, aRead, aWrite, aKey, aDisconnect, aside, sorted, Keeping, same, more, keeps, Disconnecting, nothingIn, keyIn, disconnects}
 
--- The unit v has the identity key of u, and the owner's key where u has one
-pub record Holding (u v : TagUnit) : Type 0 where
-  pub identity : v .identity ≡ u .identity
-  pub owner : (key : List ℕ) → ownerKey (u .accounts) ≡ some key → ownerKey (v .accounts) ≡ some key
+-- The unit v has the owner's key of u, where u has one
+abbrev pub Owns : TagUnit → TagUnit → Type 0
+Owns u v = (key : List ℕ) → ownerKey (u .accounts) ≡ some key → ownerKey (v .accounts) ≡ some key
 
-holding : (u : TagUnit) → Holding u u
-holding u = record { identity = refl; owner = λ key e. e }
+-- What the act a did to the keys of u, which left v
+pub data OnKeys (a : Act) (u v : TagUnit) : Type 0 where
+  kept : Owns u v → v .identity ≡ u .identity → v .waiting ≡ u .waiting → OnKeys a u v
+  sets : Accepts 0x02 a u → Owns u v → v .identity ≡ u .identity → OnKeys a u v
+  drops : Accepts 0x03 a u → v .waiting .held ≡ false → OnKeys a u v
+  brings : BringsIn a u → Owns u v → v .identity ≡ u .waiting → v .waiting .held ≡ false → OnKeys a u v
 
-then : {u v w : TagUnit} → Holding u v → Holding v w → Holding u w
-then f g = record { identity = g .identity ∙ f .identity; owner = λ key e. g .owner key (f .owner key e) }
-
-left-alone : {u v : TagUnit} → Alone u v → Holding u v
-left-alone a = record { identity = a .identity; owner = a .owner }
+untouched : (a : Act) (u : TagUnit) → OnKeys a u u
+untouched a u = kept (λ key e. e) refl refl
 
 -- One key more leaves the owner's at its place
 row-stays : (o : Owner) (l : List (List ℕ)) (k : List ℕ) → placeLegal o (length l) ≡ true → (key : List ℕ) → rowOf o l ≡ some key
@@ -53,45 +57,88 @@ added-owner k a l legal sized few key e =
     ap (rowOf (a .owner)) (held-after k a l sized few)
     ∙ row-stays (a .owner) (heldKeys a) k (rw (held-count a) legal) key e
 
--- an outcome whose unit holds what u held
-abbrev Holds : TagUnit → Outcome → Type 0
-Holds u o = Holding u (o .unit)
-
-key-holds : {key : List ℕ} {u : TagUnit} {o : Outcome} → wellFormed u ≡ true → Keeping key u o → Holds u o
-key-holds {u = u} w same = holding u
-key-holds {key} {u} w (more n few) =
+-- Each act that passes
+key-acts : (a : Act) {key : List ℕ} {u : TagUnit} {o : Outcome} → wellFormed u ≡ true → Keeping key u o → OnKeys a u (o .unit)
+key-acts a {u = u} w same = untouched a u
+key-acts a {key} {u} w (more n few) =
     let l = lines u w in
-    record { identity = refl; owner = added-owner key (u .accounts) (l .accounts) (l .owner) n few }
+    kept (added-owner key (u .accounts) (l .accounts) (l .owner) n few) refl refl
 
-read-holds : (nonce : List ℕ) (u : TagUnit) → Holds u (issuing nonce u)
+read-acts : (a : Act) (nonce : List ℕ) (u : TagUnit) → OnKeys a u (issuing nonce u .unit)
 unfolding issuing
-read-holds nonce u =
-    choose (Holds u) (nonceFits u nonce) (λ e. record { identity = refl; owner = λ key e. e }) (λ e. holding u)
+read-acts a nonce u =
+    choose (λ (o : Outcome). OnKeys a u (o .unit)) (nonceFits u nonce) (λ e. kept (λ key e. e) refl refl) (λ e. untouched a u)
 
-write-holds : (w : Written) (room : ℕ) (u : TagUnit) {o : Outcome} → Ended u (w .bytes) o → step (calls (write w) room) u ≡ o
-    → (Rekeys (calls (write w) room) u → ⊥) → Holds u o
-write-holds w room u (turned n) e never = record { identity = refl; owner = λ key e. e }
-write-holds w room u (served {answer = a} s l (set key id o)) e never =
-    absurd (never (rekeys (inl id) (a, ap (λ (x : Outcome). x .result) e)))
-write-holds w room u (served {answer = a} s l (clear id)) e never = absurd (never (rekeys (inr id) (a, ap (λ (x : Outcome). x .result) e)))
-write-holds w room u (served s l (recovered key id o)) e never = record { identity = refl; owner = λ key e. e }
-write-holds w room u (served s l (other k a)) e never = record { identity = a .identity; owner = a .owner }
+write-acts : (w : Written) (room : ℕ) (u : TagUnit) {o : Outcome} → Ended u (w .bytes) o → step (calls (write w) room) u ≡ o
+    → OnKeys (calls (write w) room) u (o .unit)
+unfolding parsed cleared
+write-acts w room u (turned n) e = kept (λ key e. e) refl refl
+write-acts w room u (served {answer = a} s l (set key id o)) e = sets (accepts id (a, ap (λ (x : Outcome). x .result) e)) (λ key e. e) refl
+write-acts w room u (served {answer = a} s l (clear id)) e = drops (accepts id (a, ap (λ (x : Outcome). x .result) e)) refl
+write-acts w room u (served s l (recovered key id o)) e = kept (λ key e. e) refl refl
+write-acts w room u (served s l (other k a)) e = kept (a .owner) (a .identity) (a .waiting)
 
-act-holds : {a : Act} → Sorted a → (u : TagUnit) → wellFormed u ≡ true → step a u ≡ ownOf a u → (Rekeys a u → ⊥) → Holds u (ownOf a u)
+disconnect-acts : (room : ℕ) {u v : TagUnit} → wellFormed u ≡ true → Disconnecting u v → OnKeys (calls disconnect room) u v
+disconnect-acts room {u} w (nothingIn absent) = untouched (calls disconnect room) u
+disconnect-acts room w (keyIn held) = brings (bringsIn w held) (λ key e. e) refl refl
+
+own-acts : {a : Act} → Sorted a → (u : TagUnit) → wellFormed u ≡ true → step a u ≡ ownOf a u → OnKeys a u (ownOf a u .unit)
 unfolding own
-act-holds (aRead {nonce}) u formed e never = read-holds nonce u
-act-holds (aWrite {w} {room}) u formed e never = write-holds w room u (ends-written u (w .bytes)) e never
-act-holds (aKey {key}) u formed e never = key-holds formed (keeps key u)
-act-holds (aside k leaves) u formed e never = left-alone (leaves u)
+own-acts {a} (aRead {nonce}) u formed e = read-acts a nonce u
+own-acts (aWrite {w} {room}) u formed e = write-acts w room u (ends-written u (w .bytes)) e
+own-acts {a} (aKey {key}) u formed e = key-acts a formed (keeps key u)
+own-acts (aDisconnect {room}) u formed e = disconnect-acts room formed (disconnects u)
+own-acts (aside k leaves) u formed e = kept (leaves u .owner) (leaves u .identity) (leaves u .waiting)
 
-step-holds : (a : Act) (u : TagUnit) → (Rekeys a u → ⊥) → Holds u (step a u)
-step-holds a u never = go (met a u)
+pub on-keys : (a : Act) (u : TagUnit) → OnKeys a u (step a u .unit)
+on-keys a u = go (met a u)
   where
-    go : Met a u → Holds u (step a u)
-    go (barred n e bars) = rw e (holding u)
-    go (passed fits formed e) = rw e (act-holds (sorted a) u formed e never)
+    go : Met a u → OnKeys a u (step a u .unit)
+    go (barred n e bars) = rw e (untouched a u)
+    go (passed fits formed e) = rw e (own-acts (sorted a) u formed e)
 
-pub history-holds : (h : List Act) (u : TagUnit) → Keeps h u → Holding u (after h u)
+-- The key in force over a list without an accepted 0x03 and without a disconnect that brings another in
+pub record InForce (u v : TagUnit) : Type 0 where
+  pub owner : Owns u v
+  pub identity : v .identity ≡ u .identity
+
+next-in-force : {a : Act} {u v w : TagUnit} → OnKeys a u v → (Accepts 0x03 a u → ⊥) → (BringsIn a u → ⊥) → InForce v w → InForce u w
+next-in-force (kept o i k) uncleared unbrought f = record { owner = λ key e. f .owner key (o key e); identity = f .identity ∙ i }
+next-in-force (sets s o i) uncleared unbrought f = record { owner = λ key e. f .owner key (o key e); identity = f .identity ∙ i }
+next-in-force (drops d k) uncleared unbrought f = absurd (uncleared d)
+next-in-force (brings b o i k) uncleared unbrought f = absurd (unbrought b)
+
+pub stays-in-force : (l : List Act) (u : TagUnit) → NoneIn (Accepts 0x03) l u → NoneIn BringsIn l u → InForce u (after l u)
 unfolding after
-history-holds [] u k = holding u
-history-holds (a ∷ h) u k = then (step-holds a u (k .0)) (history-holds h (step a u .unit) (k .1))
+stays-in-force [] u uncleared unbrought = record { owner = λ key e. e; identity = refl }
+stays-in-force (a ∷ l) u uncleared unbrought =
+    next-in-force (on-keys a u) (uncleared .0) (unbrought .0) (stays-in-force l (step a u .unit) (uncleared .1) (unbrought .1))
+
+-- The waiting key over a list without an accepted 0x02: it stays, or none waits any more
+pub data Awaited (u v : TagUnit) : Type 0 where
+  waits : Owns u v → v .waiting ≡ u .waiting → Awaited u v
+  gone : v .waiting .held ≡ false → Awaited u v
+
+next-awaited : {a : Act} {u v w : TagUnit} → OnKeys a u v → (Accepts 0x02 a u → ⊥) → Awaited v w → Awaited u w
+next-awaited (kept o i k) never (waits p e) = waits (λ key h. p key (o key h)) (e ∙ k)
+next-awaited (sets s o i) never (waits p e) = absurd (never s)
+next-awaited (drops d k) never (waits p e) = gone (ap (λ (x : Identity). x .held) e ∙ k)
+next-awaited (brings b o i k) never (waits p e) = gone (ap (λ (x : Identity). x .held) e ∙ k)
+next-awaited acts never (gone h) = gone h
+
+awaited : (l : List Act) (u : TagUnit) → NoneIn (Accepts 0x02) l u → Awaited u (after l u)
+unfolding after
+awaited [] u never = waits (λ key e. e) refl
+awaited (a ∷ l) u never = next-awaited (on-keys a u) (never .0) (awaited l (step a u .unit) (never .1))
+
+-- so a key that waits at the end is the one of the start, and the owner is too
+pub record Waiting (u v : TagUnit) : Type 0 where
+  pub owner : Owns u v
+  pub waiting : v .waiting ≡ u .waiting
+
+pub still-waiting : (l : List Act) (u : TagUnit) → NoneIn (Accepts 0x02) l u → after l u .waiting .held ≡ true → Waiting u (after l u)
+still-waiting l u never held = go (awaited l u never)
+  where
+    go : Awaited u (after l u) → Waiting u (after l u)
+    go (waits o e) = record { owner = o; waiting = e }
+    go (gone h) = absurd (clash held h)

@@ -42,5 +42,7 @@ pub mod Refused
 pub mod LentRoom
 pub mod OwnRefusals
 pub mod RefusalOrder
+pub mod WaitingUnseen
+pub mod WaitingKey
 pub mod RecoveryExample
 pub mod Demands

@@ -1,8 +1,8 @@
--- What the calls other than writes do to nonce and keys: a read changes the nonce only, an account key is added behind the others only,
--- and the rest leave all of it alone.
+-- What the calls other than writes do to nonce and keys: a read changes the nonce only, an account key is added behind the others only, a
+-- disconnect brings a waiting key in or does nothing, and the rest leave all of it alone.
 use Prim.Native.Nat.{ℕ, zero, suc, _<_}
 use mathlib.Core.Path.{_≡_, refl, _∙_}
-use mathlib.Core.Bool.{not, _&&_}
+use mathlib.Core.Bool.{true, false, not, _&&_}
 use mathlib.Core.List.{List, []}
 use lib.Dec.{eqb, leb, ltb}
 use lib.ListN.{length}
@@ -17,8 +17,8 @@ use Rattle.unit.specs.Standing.{stands}
 use Rattle.unit.specs.Change.{withAccounts, withNewKey}
 use Rattle.unit.specs.Outcome.{Outcome, giving}
 use Rattle.time.specs.Time.{endsNext, ringOn, oneTenth, afterTenth, tenths}
-use Rattle.tag.specs.Own.{pressed, showing, lending, charged, keeping}
-use Rattle.tag.specs.Calls.{Written, read, write, button, pairing, battery, accountKey, identifier, frame, own, Act, calls, waits}
+use Rattle.tag.specs.Own.{pressed, showing, lending, charged, keeping, broughtIn, disconnected}
+use Rattle.tag.specs.Calls.{Written, read, write, button, pairing, battery, accountKey, disconnect, identifier, frame, own, Act, calls, waits}
 use Rattle.demands.proofs.Guards.{ownOf}
 use Rattle.demands.proofs.WritesOnKeys.{Alone, alone, choose}
 
@@ -32,6 +32,7 @@ then f g =
       nonce = g .nonce ∙ f .nonce;
       table = g .table ∙ f .table;
       identity = g .identity ∙ f .identity;
+      waiting = g .waiting ∙ f .waiting;
       owner = λ key e. g .owner key (f .owner key e);
     }
 
@@ -43,7 +44,7 @@ tenth-alone : (u : TagUnit) → Alone u (oneTenth u)
 unfolding oneTenth
 tenth-alone u =
     let r = ring-alone u in
-    record { nonce = r .nonce; table = r .table; identity = r .identity; owner = r .owner }
+    record { nonce = r .nonce; table = r .table; identity = r .identity; waiting = r .waiting; owner = r .owner }
 
 tenths-alone : (n : ℕ) (u : TagUnit) → Alone u (tenths n u .unit)
 unfolding tenths afterTenth
@@ -73,29 +74,32 @@ showing-alone : (u : TagUnit) → Leaves u (showing u)
 unfolding showing
 showing-alone u = choose (Leaves u) (stands u) (λ e. alone u) (λ e. alone u)
 
--- The acts as nonce and keys see them: a read, a write, an account key, and those that leave all alone
+-- The acts as nonce and keys see them: a read, a write, an account key, a disconnect, and those that leave all alone
 abbrev pub kind : Act → ℕ
 kind (calls (read nonce) room) = 0
 kind (calls (write w) room) = 1
 kind (calls (accountKey key) room) = 2
-kind (calls button room) = 3
-kind (calls frame room) = 3
-kind (calls (pairing on) room) = 3
-kind (calls (battery level) room) = 3
-kind (calls (identifier r id) room) = 3
-kind (waits n room) = 3
+kind (calls disconnect room) = 3
+kind (calls button room) = 4
+kind (calls frame room) = 4
+kind (calls (pairing on) room) = 4
+kind (calls (battery level) room) = 4
+kind (calls (identifier r id) room) = 4
+kind (waits n room) = 4
 
 pub data Sorted : Act → Type 0 where
   aRead : {nonce : List ℕ} {room : ℕ} → Sorted (calls (read nonce) room)
   aWrite : {w : Written} {room : ℕ} → Sorted (calls (write w) room)
   aKey : {key : List ℕ} {room : ℕ} → Sorted (calls (accountKey key) room)
-  aside : {a : Act} → kind a ≡ 3 → ((u : TagUnit) → Leaves u (ownOf a u)) → Sorted a
+  aDisconnect : {room : ℕ} → Sorted (calls disconnect room)
+  aside : {a : Act} → kind a ≡ 4 → ((u : TagUnit) → Leaves u (ownOf a u)) → Sorted a
 
 pub sorted : (a : Act) → Sorted a
 unfolding own
 sorted (calls (read nonce) room) = aRead
 sorted (calls (write w) room) = aWrite
 sorted (calls (accountKey key) room) = aKey
+sorted (calls disconnect room) = aDisconnect
 sorted (calls button room) = aside {a = calls button room} refl (λ u. pressed-alone (u .sound) u)
 sorted (calls frame room) = aside {a = calls frame room} refl showing-alone
 sorted (calls (pairing on) room) = aside {a = calls (pairing on) room} refl (λ u. search)
@@ -118,3 +122,12 @@ keeps key u =
     choose (Keeping key u) (ltb (u .accounts .count) mostKeys)
     (λ few. more (eqb-true (length key) accountKeySize (not-false _ e)) (ltb-true (u .accounts .count) mostKeys few))
     (λ few. same)))
+
+-- What became of the keys at a disconnect
+pub data Disconnecting (u : TagUnit) : TagUnit → Type 0 where
+  nothingIn : u .waiting .held ≡ false → Disconnecting u u
+  keyIn : u .waiting .held ≡ true → Disconnecting u (broughtIn u)
+
+pub disconnects : (u : TagUnit) → Disconnecting u (disconnected u .unit)
+unfolding disconnected
+disconnects u = choose (Disconnecting u) (u .waiting .held) keyIn nothingIn

@@ -22,8 +22,8 @@ use Rattle.unit.specs.WellFormed.{wellFormed, heldKeys}
 use Rattle.unit.specs.Standing.{stands}
 use Rattle.unit.specs.Outcome.{Outcome, refusing}
 use Rattle.unit.proofs.Lines.{held-count}
-use Rattle.tag.specs.Own.{nonceFits, issuing, pressed, charged, keeping, lending, showing}
-use Rattle.tag.specs.Calls.{read, write, button, pairing, battery, accountKey, identifier, frame, own as ownCall, Act, calls, waits}
+use Rattle.tag.specs.Own.{nonceFits, issuing, pressed, charged, keeping, disconnected, lending, showing}
+use Rattle.tag.specs.Calls.{read, write, button, pairing, battery, accountKey, disconnect, identifier, frame, own as ownCall, Act, calls, waits}
 use Rattle.demands.specs.History.{step}
 use Rattle.demands.specs.Spelled.{keyAtPlace}
 use Rattle.demands.specs.RecordLines.{RecordLines}
@@ -123,7 +123,7 @@ from-found n (refused {n = m} f) e = let same : m ≡ n = cc in rw same at f
 
 module _ (u : TagUnit) (n : ℕ) (l : RecordLines u) (right : wellFormed u ≡ true) where
   pub own-only : (a : Act) → 42 ≤ roomFor a → ownOf a u .result ≡ refuses n → Own u a n
-  unfolding ownCall
+  unfolding ownCall disconnected
   own-only (calls (read nonce) room) fits e = from-found n (read-found u l nonce room) e
   own-only (calls (write w) room) fits e =
       ofWrite (only-for-a-reason u room (w .bytes) n right fits (ap (λ (o : Outcome). o .result) (through (calls (write w) room) u fits right) ∙ e))
@@ -131,6 +131,7 @@ module _ (u : TagUnit) (n : ℕ) (l : RecordLines u) (right : wellFormed u ≡ t
   own-only (calls (pairing on) room) fits e = let z : _≡_ {A = ℕ} 0 1 = cc in absurd (omega arith)
   own-only (calls (battery level) room) fits e = from-found n (battery-found u l level room) e
   own-only (calls (accountKey key) room) fits e = from-found n (key-found u l key room) e
+  own-only (calls disconnect room) fits e = let z : _≡_ {A = ℕ} 0 1 = cc in absurd (omega arith)
   own-only (calls (identifier r id) room) fits e = from-found n (identifier-found u l r id room) e
   own-only (calls frame room) fits e = from-found n (frame-found u l room) e
   own-only (waits t room) fits e =

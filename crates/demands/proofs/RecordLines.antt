@@ -21,9 +21,10 @@ use Rattle.unit.specs.Ringable.{inside}
 use Rattle.unit.specs.WellFormed.{powerLegal, heldKeys, placeLegal, ownerLegal, owned, identityLegal, nonceLegal, soundLegal, protectionLegal, identifierLegal}
 use Rattle.unit.specs.declared.TagUnit.{TagUnit}
 use Rattle.unit.specs.declared.Owner.{Owner}
+use Rattle.unit.specs.declared.Identity.{Identity}
 use Rattle.unit.specs.declared.Sound.{Sound}
 use Rattle.unit.specs.declared.Protection.{Protection}
-use Rattle.unit.proofs.Lines.{Lines, lines, formed, held-count, owner-held, identity-owned, ring-held, ring-legal, silent-zeros, protection-held, identifier-held, identifier-window}
+use Rattle.unit.proofs.Lines.{Lines, lines, formed, held-count, owner-held, identity-owned, waiting-owned, ring-held, ring-legal, silent-zeros, protection-held, identifier-held, identifier-window}
 use Rattle.demands.specs.Spelled.{keyAtPlace}
 use Rattle.demands.specs.RecordLines.{Zeros, RingLines, RecordLines, WellFormedExactly}
 use Rattle.demands.proofs.MaskBits.{inside-below, below-inside, no-bit, bit-from}
@@ -123,9 +124,9 @@ module _ (u : TagUnit) (l : Lines u) where
   unfolding nonceLegal
   nonce-absent e = rw e at (l .nonce)
 
-  identity-absent : u .identity .held ≡ false → allZero (u .identity .bytes) ≡ true
+  identity-absent : (k : Identity) → identityLegal k (u .accounts .owner) ≡ true → k .held ≡ false → allZero (k .bytes) ≡ true
   unfolding identityLegal
-  identity-absent e = rw e at (l .identity)
+  identity-absent k legal e = rw e at legal
 
   identifier-absent : u .identifier .held ≡ false
       → allZero (u .identifier .r) && (allZero (u .identifier .id) && eqb (u .identifier .window) 0) ≡ true
@@ -146,7 +147,9 @@ module _ (u : TagUnit) (l : Lines u) where
         noOtherKeys = λ i h. spare-at (u .accounts .keys) (u .accounts .count * 16) i (l .accounts .spare) (omega arith);
         ownerHeld = owner-held l;
         keyOwned = λ e. not-nobody (identity-owned l e);
-        noKey = λ e. zeros-at _ (identity-absent e);
+        noKey = λ e. zeros-at _ (identity-absent (u .identity) (l .identity) e);
+        waitingOwned = λ e. not-nobody (waiting-owned l e);
+        noneWaits = λ e. zeros-at _ (identity-absent (u .waiting) (l .waiting) e);
         notLive = λ e. not-true _ (and-left _ _ (nonce-absent e));
         noNonce = λ e. zeros-at _ (and-right (not (u .nonce .live)) _ (nonce-absent e));
         silent = λ e. zeros-at _ (silent-zeros l e);
@@ -172,9 +175,16 @@ module _ (u : TagUnit) (l : RecordLines u) where
   owned-by Owner.Nobody h = absurd (h refl)
   owned-by (Owner.Place p) h = refl
 
-  identity-legal : (b : Bool) → u .identity .held ≡ b → (b && owned (u .accounts .owner)) || (not b && allZero (u .identity .bytes)) ≡ true
-  identity-legal true e = or-left false (owned-by (u .accounts .owner) (l .keyOwned e))
-  identity-legal false e = zeros-all _ (l .noKey e)
+  -- the key in force and the one that waits
+  identity-legal : (k : Identity) → (k .held ≡ true → u .accounts .owner ≡ Owner.Nobody → ⊥) → (k .held ≡ false → Zeros (k .bytes))
+      → identityLegal k (u .accounts .owner) ≡ true
+  unfolding identityLegal
+  identity-legal k some none = go (k .held) some none
+    where
+      go : (b : Bool) → (b ≡ true → u .accounts .owner ≡ Owner.Nobody → ⊥) → (b ≡ false → Zeros (k .bytes))
+          → (b && owned (u .accounts .owner)) || (not b && allZero (k .bytes)) ≡ true
+      go true h z = or-left false (owned-by (u .accounts .owner) (h refl))
+      go false h z = zeros-all _ (z refl)
 
   nonce-legal : (b : Bool) → u .nonce .held ≡ b → b || (not (u .nonce .live) && allZero (u .nonce .bytes)) ≡ true
   nonce-legal true e = refl
@@ -216,7 +226,7 @@ module _ (u : TagUnit) (l : RecordLines u) where
   identifier-legal false e = both (zeros-all _ (l .noR e)) (both (zeros-all _ (l .noIdentifier e)) (eq-eqb _ _ (l .noWindow e)))
 
   lines-back : Lines u
-  unfolding ownerLegal identityLegal nonceLegal identifierLegal
+  unfolding ownerLegal nonceLegal identifierLegal
   lines-back =
       record {
         settings =
@@ -238,7 +248,8 @@ module _ (u : TagUnit) (l : RecordLines u) where
               spare = spare-all (u .accounts .keys) (u .accounts .count * 16) (λ i h. l .noOtherKeys i (omega arith));
             };
         owner = owner-legal (u .accounts .owner) refl;
-        identity = identity-legal (u .identity .held) refl;
+        identity = identity-legal (u .identity) (l .keyOwned) (l .noKey);
+        waiting = identity-legal (u .waiting) (l .waitingOwned) (l .noneWaits);
         nonce = nonce-legal (u .nonce .held) refl;
         sound = sound-legal (u .sound) refl;
         protection = protection-legal (u .protection) refl;

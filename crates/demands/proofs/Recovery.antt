@@ -1,10 +1,10 @@
--- While a key stays set, recovery returns the same 32 encrypted bytes that set it. The accepted 0x02 decrypted them with the owner key;
--- the owner's key and the identity key stay (KeyKept); the owner key is sixteen bytes (KeyBytes); so the accepted 0x04 encrypts what was
--- decrypted, with the same key (Blocks).
+-- While a key stays in force, recovery returns the same 32 encrypted bytes that set it. The accepted 0x02 decrypted them with the owner key;
+-- what it left waiting the disconnect brought in, and the owner's key stays (KeyKept); the owner key is sixteen bytes (KeyBytes); so the
+-- accepted 0x04 encrypts what was decrypted, with the same key (Blocks).
 use Prim.Native.Nat.{ℕ, _+_, _≤_}
-use mathlib.Core.Path.{_≡_, refl, sym, ap, ap₂, _∙_}
+use mathlib.Core.Path.{_≡_, refl, sym, ap, ap₂, subst, _∙_}
 use mathlib.Core.Bool.{true, false, _||_}
-use mathlib.Core.List.{List, _∷_}
+use mathlib.Core.List.{List, [], _∷_, _++_}
 use mathlib.Core.Option.{some}
 use mathlib.Core.Logic.{_⊎_, inl, inr}
 use native.Mathlib.Omega.{arith}
@@ -12,24 +12,28 @@ use lib.Dec.{leb, eqb}
 use lib.ListN.{length, getD, take, length-drop}
 use lib.Seq.{drop-at}
 use borrow.Author.Tests.{eqb-true}
+use Rattle.laws.specs.Answer.{gives}
 use Rattle.laws.proofs.Flags.{and-left, and-right, or-cases, or-false}
 use Rattle.wire.specs.Signing.{recoveryKey, answerTag, signed}
 use Rattle.wire.specs.Shape.{Request, parsed, sizeLegal, legalSizes, oneOf, shapeLegal}
 use Rattle.wire.specs.KeyBlocks.{decryptedKey, encryptedKey}
 use Rattle.unit.specs.declared.TagUnit.{TagUnit}
 use Rattle.unit.specs.declared.Identity.{Identity}
-use Rattle.unit.specs.WellFormed.{ownerKey}
-use Rattle.unit.specs.Change.{fresh}
+use Rattle.unit.specs.WellFormed.{wellFormed, ownerKey}
+use Rattle.unit.specs.Change.{fresh, spent}
 use Rattle.authentication.specs.Judgement.{accepts, lastNonce}
-use Rattle.provisioning.specs.Provisioning.{rekeyed}
-use Rattle.tag.specs.Calls.{Written, write, Act, calls}
-use Rattle.demands.specs.History.{step, after, Bytes}
+use Rattle.provisioning.specs.Provisioning.{awaiting}
+use Rattle.tag.specs.Calls.{disconnect, Act, calls}
+use Rattle.demands.specs.History.{step, after, writes, Bytes}
+use Rattle.demands.specs.Among.{NoneIn, Accepts, accepts, BringsIn, bringsIn}
+use Rattle.demands.specs.Events.{BroughtIn}
 use Rattle.demands.specs.Recovery.{dataOf, Demand2Recovery}
 use Rattle.demands.proofs.Judging.{length-answerTag}
-use Rattle.demands.proofs.WritesOnKeys.{Did, set, clear, recovered, other, Served, accepted-write}
+use Rattle.demands.proofs.WritesOnKeys.{Did, set, clear, recovered, other, accepted-write}
 use Rattle.demands.proofs.OfBytes.{bytes-drop, split-bytes}
 use Rattle.demands.proofs.Histories.{after-append}
-use Rattle.demands.proofs.KeyKept.{Holding, history-holds}
+use Rattle.demands.proofs.Events.{events}
+use Rattle.demands.proofs.KeyKept.{InForce, stays-in-force, Waiting, still-waiting}
 use Rattle.demands.proofs.KeyBytes.{Sixteen, owner-sixteen}
 use Rattle.demands.proofs.Blocks.{round-trip}
 
@@ -53,7 +57,7 @@ long-enough w legal id =
 
 -- what an accepted 0x02 made of the unit
 was-set : {u v : TagUnit} {q : Request} {answer : List ℕ} → Did u q (accepts v answer) → q .id ≡ 0x02
-    → (key : List ℕ) × (ownerKey (u .accounts) ≡ some key) × (v ≡ rekeyed (decryptedKey key (q .additional)) u)
+    → (key : List ℕ) × (ownerKey (u .accounts) ≡ some key) × (v ≡ awaiting (decryptedKey key (q .additional)) u)
 was-set (set key e o) id = (key, o, refl)
 was-set (clear e) id = absurd (omega arith)
 was-set (recovered key e o) id = absurd (omega arith)
@@ -68,41 +72,74 @@ was-recovered {u} {q = q} (recovered key e o) id =
     (key, o, data-signed (recoveryKey (u .identity .bytes)) (lastNonce u) (q .id) (encryptedKey key (u .identity .bytes)))
 was-recovered (other k a) id = absurd (k .notRecovered id)
 
--- An accepted 0x02 on u, and an accepted 0x04 on a unit v that still holds what the first left
-module _ (u v : TagUnit) (first : Written) (room : ℕ) (said : List ℕ) (sixteen : (key : List ℕ) → ownerKey (u .accounts) ≡ some key → Sixteen key)
-    (bytes : Bytes (first .bytes)) (sets : parsed (first .bytes) .id ≡ 0x02) (accepted : Served u first room said)
-    (held : Holding (step (calls (write first) room) u .unit) v) where
-  same-bytes : (w : Written) (lent : ℕ) (answer : List ℕ) → parsed (w .bytes) .id ≡ 0x04 → Served v w lent answer
-      → dataOf answer ≡ take 32 (parsed (first .bytes) .additional)
+-- An accepted 0x02 of these bytes: the owner's key, and what waits then
+pub record KeySet (u : TagUnit) (bytes : List ℕ) (v : TagUnit) : Type 0 where
+  pub formed : wellFormed u ≡ true
+  pub long : 32 ≤ length (dataOf bytes)
+  pub key : List ℕ
+  pub owner : ownerKey (u .accounts) ≡ some key
+  pub left : v ≡ awaiting (decryptedKey key (dataOf bytes)) (spent u)
+
+pub key-set : (bytes : List ℕ) (room : ℕ) (u : TagUnit) → Accepts 0x02 (writes bytes room) u → KeySet u bytes (step (writes bytes room) u .unit)
+unfolding parsed
+key-set bytes room u (accepts id (answer, e)) =
+    let a = accepted-write (record { bytes = bytes }) room u answer e in
+    let (key, owner, unit) = was-set (a .did) id in
+    record { formed = a .formed; long = long-enough bytes (a .legal) id; key = key; owner = owner; left = unit }
+
+-- A key that was set on u and left v, waited until w, was brought in and left x, and stayed in force until z: what an accepted 0x04 then answers
+module _ (u : TagUnit) (bytes : List ℕ) {v w x z : TagUnit} (done : KeySet u bytes v) (between : Waiting v w) (brought : BroughtIn w x)
+    (later : InForce x z) (sixteen : (key : List ℕ) → ownerKey (u .accounts) ≡ some key → Sixteen key) (octets : Bytes bytes) where
+  in-force : z .identity .bytes ≡ decryptedKey (done .key) (dataOf bytes)
+  in-force =
+      ap (λ (k : Identity). k .bytes) (later .identity ∙ brought .inForce)
+      ∙ ap (λ (k : Identity). k .bytes) (between .waiting)
+      ∙ ap (λ (y : TagUnit). y .waiting .bytes) (done .left)
+
+  owner-then : ownerKey (z .accounts) ≡ some (done .key)
+  owner-then =
+      later .owner (done .key)
+      (ap ownerKey (brought .rest .3) ∙ between .owner (done .key) (ap (λ (y : TagUnit). ownerKey (y .accounts)) (done .left) ∙ done .owner))
+
+  same-bytes : (later-bytes : List ℕ) (room : ℕ) (answer : List ℕ) → getD later-bytes 0 0 ≡ 0x04 → step (writes later-bytes room) z .result ≡ gives answer
+      → dataOf answer ≡ take 32 (dataOf bytes)
   unfolding parsed
-  same-bytes w lent answer id later =
-      let C = parsed (first .bytes) .additional in
-      let left = step (calls (write first) room) u .unit in
-      let (key, owner, unit) = was-set (accepted .did) sets in
-      let (used, owner-then, answered) = was-recovered (later .did) id in
-      let owner-left : ownerKey (left .accounts) ≡ some key = ap (λ (x : TagUnit). ownerKey (x .accounts)) unit ∙ owner in
-      let owner-now : ownerKey (v .accounts) ≡ some key = held .owner key owner-left in
-      let same-key : used ≡ key = cc in
-      let identity-left : left .identity .bytes ≡ decryptedKey key C = ap (λ (x : TagUnit). x .identity .bytes) unit in
-      let identity-now : v .identity .bytes ≡ left .identity .bytes = ap (λ (x : Identity). x .bytes) (held .identity) in
+  same-bytes later-bytes room answer id e =
+      let a = accepted-write (record { bytes = later-bytes }) room z answer e in
+      let (used, owner, answered) = was-recovered (a .did) id in
+      let same-key : used ≡ done .key = cc (owner-then) in
       answered
-      ∙ ap₂ encryptedKey same-key (identity-now ∙ identity-left)
-      ∙ round-trip key C (sixteen key owner) (long-enough (first .bytes) (accepted .legal) sets) (bytes-drop 10 (first .bytes) bytes)
+      ∙ ap₂ encryptedKey same-key in-force
+      ∙ round-trip (done .key) (dataOf bytes) (sixteen (done .key) (done .owner)) (done .long) (bytes-drop 10 bytes octets)
+
+held-then : {lent : ℕ} {u : TagUnit} → BringsIn (calls disconnect lent) u → u .waiting .held ≡ true
+held-then (bringsIn formed held) = held
+
+brought-in : {lent : ℕ} {u : TagUnit} → BringsIn (calls disconnect lent) u → BroughtIn u (step (calls disconnect lent) u .unit)
+brought-in {lent} {u} (bringsIn formed held) = events .keyBroughtIn u lent formed held .left
 
 pub recovery : Demand2Recovery
 unfolding after
 recovery s h C w room answer bytes setBy id result =
-    let first = calls (write (setBy .w)) (setBy .room) in
+    let first = writes (setBy .bytes) (setBy .room) in
+    let last = calls disconnect (setBy .lent) in
     let u = after (setBy .before) (fresh s) in
-    let left = step first u .unit in
-    let parts = split-bytes (setBy .before) (first ∷ setBy .later) (rw (setBy .split) at bytes) in
-    let unit : after h (fresh s) ≡ after (setBy .later) left =
-    ap (λ (l : List Act). after l (fresh s)) (setBy .split) ∙ after-append (setBy .before) (first ∷ setBy .later) (fresh s) in
-    let accepted = accepted-write (setBy .w) (setBy .room) u (setBy .accepted .0) (setBy .accepted .1) in
-    same-bytes u (after (setBy .later) left) (setBy .w) (setBy .room) (setBy .accepted .0)
-    (owner-sixteen s (setBy .before) (parts .0) (accepted .formed)) (parts .1 .0) (setBy .sets)
-    accepted
-    (history-holds (setBy .later) left (setBy .kept))
+    let v = step first u .unit in
+    let x = step last (after (setBy .between) v) .unit in
+    let parts = split-bytes (setBy .before) (first ∷ setBy .between ++ (last ∷ setBy .later)) (rw (setBy .split) at bytes) in
+    let from : (l : List Act) → after (setBy .before ++ (first ∷ l)) (fresh s) ≡ after l v = λ l. after-append (setBy .before) (first ∷ l) (fresh s) in
+    let then : (l : List Act) → after (setBy .before ++ (first ∷ setBy .between ++ (last ∷ l))) (fresh s) ≡ after l x =
+    λ l. from (setBy .between ++ (last ∷ l)) ∙ after-append (setBy .between) (last ∷ l) v in
+    let brought = subst (BringsIn last) (from (setBy .between)) (setBy .brought) in
+    let done = key-set (setBy .bytes) (setBy .room) u (setBy .accepted) in
+    same-bytes u (setBy .bytes) done
+    (still-waiting (setBy .between) v (subst (NoneIn (Accepts 0x02) (setBy .between)) (from []) (setBy .lastSet)) (held-then brought))
+    (brought-in brought)
+    (stays-in-force (setBy .later) x (subst (NoneIn (Accepts 0x03) (setBy .later)) (then []) (setBy .kept))
+    (subst (NoneIn BringsIn (setBy .later)) (then []) (setBy .lastBrought)))
+    (owner-sixteen s (setBy .before) (parts .0) (done .formed))
+    (parts .1 .0)
     w room answer id
-    (accepted-write w room (after (setBy .later) left) answer (rw unit at result))
+    (subst (λ (y : TagUnit). step (writes w room) y .result ≡ gives answer)
+    (ap (λ (l : List Act). after l (fresh s)) (setBy .split) ∙ then (setBy .later)) result)
     ∙ sym (setBy .began)

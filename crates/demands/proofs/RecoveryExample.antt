@@ -14,7 +14,6 @@ use Rattle.laws.proofs.Same.{differ-same, same-refl}
 use Rattle.primitives.specs.Standards.{HMAC}
 use Rattle.primitives.proofs.Laws.{HMAC-byte}
 use Rattle.wire.specs.Signing.{requestTag}
-use Rattle.wire.specs.Shape.{parsed}
 use Rattle.wire.specs.KeyBlocks.{decryptedKey}
 use Rattle.unit.specs.declared.TagUnit.{TagUnit}
 use Rattle.unit.specs.declared.Settings.{Settings}
@@ -22,19 +21,21 @@ use Rattle.unit.specs.declared.Owner.{Owner}
 use Rattle.tables.specs.Rows.{rows, among, placeOf}
 use Rattle.unit.specs.declared.Accounts.{Accounts}
 use Rattle.unit.specs.WellFormed.{settingsLegal, wellFormed, heldKeys}
-use Rattle.unit.specs.Change.{fresh, noAccounts, withAccounts, withNewKey, withNonce, withOwner, withConsent, withIdentifier, noIdentifier, silenced, spent}
+use Rattle.unit.specs.Change.{fresh, noAccounts, withAccounts, withNewKey, withNonce, withOwner, withConsent, spent}
 use Rattle.unit.specs.Outcome.{Outcome, giving, formed}
-use Rattle.unit.proofs.Kept.{fresh-formed, issued-kept, spent-kept, accounts-kept, owner-kept, identity-kept, silenced-kept, unlent-kept, consent-kept}
-use Rattle.provisioning.specs.Provisioning.{rekeyed, ownedBy}
-use Rattle.tag.specs.Own.{keeping, pressed}
-use Rattle.tag.specs.Calls.{read, button, accountKey, own, guarded, call, Act, calls, act}
+use Rattle.unit.proofs.Kept.{fresh-formed, issued-kept, spent-kept, accounts-kept, owner-kept, waiting-kept, consent-kept}
+use Rattle.provisioning.specs.Provisioning.{awaiting, ownedBy}
+use Rattle.tag.specs.Own.{keeping, pressed, broughtIn, disconnected}
+use Rattle.tag.specs.Calls.{read, button, accountKey, disconnect, own, guarded, call, Act, calls, act}
 use Rattle.demands.specs.History.{step, after, writes, Bytes, AllOfBytes}
 use Rattle.demands.specs.Spelled.{tagFrom, requestFrom, keyAtPlace, OwnedWith}
 use Rattle.demands.specs.Accepted.{Serves, Open, First, answer, recoveryKeyOf, keyBlocks}
-use Rattle.demands.specs.Recovery.{Rekeys, rekeys, SetBy}
+use Rattle.demands.specs.Among.{Accepts, accepts, BringsIn, bringsIn}
+use Rattle.demands.specs.Recovery.{SetBy}
 use Rattle.demands.specs.RecoveryExample.{Given, provisioning, recovering, Shown, RecoveryExample}
 use Rattle.demands.proofs.OfBytes.{bytes-take, bytes-cons, bytes-append}
 use Rattle.demands.proofs.Histories.{after-append}
+use Rattle.demands.proofs.Formed.{formed as stays-formed}
 use Rattle.demands.proofs.Judging.{opened, length-requestTag}
 use Rattle.demands.proofs.Accepted.{reads, serves-state, serves-key, accepted}
 use Rattle.demands.proofs.OtherCalls.{kind}
@@ -58,9 +59,12 @@ tag-eight by nonce id size additional = length-requestTag by nonce id size addit
 none : Bytes []
 none i = omega arith
 
--- Only writes rekey
-rekeys-kind : {c : Act} {u : TagUnit} → Rekeys c u → kind c ≡ 1
-rekeys-kind (rekeys id s) = refl
+-- Only writes are accepted, and only a disconnect brings a key in
+accepts-kind : {id : ℕ} {c : Act} {u : TagUnit} → Accepts id c u → kind c ≡ 1
+accepts-kind (accepts id s) = refl
+
+brings-kind : {c : Act} {u : TagUnit} → BringsIn c u → kind c ≡ 3
+brings-kind (bringsIn formed held) = refl
 
 -- A history call by call
 data Runs : TagUnit → List Act → TagUnit → Type 0 where
@@ -89,8 +93,11 @@ module _ (s : Settings) (key C n₁ n₂ n₃ : List ℕ) (g : Given s key C n�
   abbrev second : TagUnit
   second = withNonce (issued n₂) owned
 
+  abbrev awaited : TagUnit
+  awaited = awaiting (decryptedKey key C) (spent second)
+
   abbrev provisioned : TagUnit
-  provisioned = rekeyed (decryptedKey key C) (spent second)
+  provisioned = broughtIn awaited
 
   abbrev consented : TagUnit
   consented = withConsent 600 provisioned
@@ -105,7 +112,7 @@ module _ (s : Settings) (key C n₁ n₂ n₃ : List ℕ) (g : Given s key C n�
   last = calls button 42 ∷ calls (read n₃) 42 ∷ []
 
   abbrev end : List Act
-  end = writes (requestFrom 0x02 key n₂ C) 42 ∷ last
+  end = writes (requestFrom 0x02 key n₂ C) 42 ∷ calls disconnect 0 ∷ last
 
   -- the one key held
   held-key : heldKeys (withNewKey key noAccounts) ≡ key ∷ []
@@ -148,15 +155,19 @@ module _ (s : Settings) (key C n₁ n₂ n₃ : List ℕ) (g : Given s key C n�
   second-formed : wellFormed second ≡ true
   second-formed = issued-kept owned owned-formed true n₂
 
-  provisioned-formed : wellFormed provisioned ≡ true
-  provisioned-formed =
-      let quiet = silenced-kept (spent second) (spent-kept second second-formed) in
-      let unlent = unlent-kept (silenced (spent second)) quiet in
-      identity-kept (withIdentifier noIdentifier (silenced (spent second))) unlent (decryptedKey key C) refl
-
-  sets-it : Serves (writes (requestFrom 0x02 key n₂ C) 42) second (answer second 0x02 key []) (λ (v : TagUnit). v ≡ provisioned)
+  sets-it : Serves (writes (requestFrom 0x02 key n₂ C) 42) second (answer second 0x02 key []) (λ (v : TagUnit). v ≡ awaited)
   sets-it =
       serves-key second 42 key C (record { formed = second-formed; live = refl; fits = omega arith }) owner-key refl (g .encryptedLong) refl
+
+  awaited-formed : wellFormed awaited ≡ true
+  awaited-formed = waiting-kept (spent second) (spent-kept second second-formed) (decryptedKey key C) refl
+
+  hangs-up : step (calls disconnect 0) awaited ≡ giving [] provisioned
+  unfolding act call guarded own disconnected formed
+  hangs-up = rw awaited-formed
+
+  provisioned-formed : wellFormed provisioned ≡ true
+  provisioned-formed = rw (ap unit-of hangs-up) at (stays-formed .kept (calls disconnect 0) awaited awaited-formed)
 
   presses : step (calls button 42) provisioned ≡ giving [] consented
   unfolding act call guarded own pressed
@@ -180,8 +191,9 @@ module _ (s : Settings) (key C n₁ n₂ n₃ : List ℕ) (g : Given s key C n�
       ∙ ap (after end) before
       ∙ runs-after
       (next (sets-it .left)
+      (next (ap unit-of hangs-up)
       (next (ap unit-of presses)
-      (next (ap unit-of (reads consented 42 n₃ consented-formed (omega arith) (g .long₃) (differ-same n₂ n₃ (g .third)))) done)))
+      (next (ap unit-of (reads consented 42 n₃ consented-formed (omega arith) (g .long₃) (differ-same n₂ n₃ (g .third)))) done))))
 
   abbrev said : List ℕ
   said = answer third 0x04 (recoveryKeyOf third) (keyBlocks key (third .identity .bytes))
@@ -198,27 +210,36 @@ module _ (s : Settings) (key C n₁ n₂ n₃ : List ℕ) (g : Given s key C n�
       let long = g .encryptedLong in
       let owning = sent-bytes 0x01 key n₁ [] (omega arith) (omega arith) none in
       let setting = sent-bytes 0x02 key n₂ C (omega arith) (omega arith) (g .encryptedBytes) in
-      (g .keyBytes, (g .bytes₁, (owning, (g .bytes₂, (setting, (none, (g .bytes₃, tt)))))))
+      (g .keyBytes, (g .bytes₁, (owning, (g .bytes₂, (setting, (none, (none, (g .bytes₃, tt))))))))
+
+  -- the unit that the disconnect meets
+  waiting-then : after (start ++ (writes (requestFrom 0x02 key n₂ C) 42 ∷ [])) (fresh s) ≡ awaited
+  waiting-then =
+      after-append start (writes (requestFrom 0x02 key n₂ C) 42 ∷ []) (fresh s)
+      ∙ ap (after (writes (requestFrom 0x02 key n₂ C) 42 ∷ [])) before
+      ∙ runs-after (next (sets-it .left) done)
 
   set-by : SetBy (fresh s) (provisioning key C n₁ n₂ n₃) C
-  unfolding parsed
   set-by =
       let long = g .encryptedLong in
       let mark = tagFrom key n₂ 0x02 (8 + length C) C in
       record {
         before = start;
-        w = record { bytes = requestFrom 0x02 key n₂ C };
+        bytes = requestFrom 0x02 key n₂ C;
         room = 42;
+        between = [];
+        lent = 0;
         later = last;
         split = refl;
-        sets = refl;
-        accepted = (answer second 0x02 key [], rw before (sets-it .answered));
+        accepted = rw before (accepts refl (answer second 0x02 key [], sets-it .answered));
         began = sym (rw (drop-at mark C 8 (tag-eight key n₂ 0x02 (8 + length C) C)) (take-all 32 C (omega arith)));
-        kept = (λ r. omega (arith, rekeys-kind r), (λ r. omega (arith, rekeys-kind r), tt));
+        lastSet = tt;
+        brought = rw waiting-then (bringsIn awaited-formed refl);
+        lastBrought = (λ b. omega (arith, brings-kind b), (λ b. omega (arith, brings-kind b), tt));
+        kept = (λ r. omega (arith, accepts-kind r), (λ r. omega (arith, accepts-kind r), tt));
       }
 
   shown : Shown s key C n₁ n₂ n₃
-  unfolding parsed
   shown =
       let result : step (writes (recovering key C n₃) 42) (after (provisioning key C n₁ n₂ n₃) (fresh s)) .result ≡ gives said =
       rw all recovers-it in
@@ -226,7 +247,7 @@ module _ (s : Settings) (key C n₁ n₂ n₃ : List ℕ) (g : Given s key C n�
         bytes = all-bytes;
         setBy = set-by;
         recovers = refl;
-        accepted = (said, result, recovery s (provisioning key C n₁ n₂ n₃) C (record { bytes = recovering key C n₃ }) 42 said all-bytes set-by refl result);
+        accepted = (said, result, recovery s (provisioning key C n₁ n₂ n₃) C (recovering key C n₃) 42 said all-bytes set-by refl result);
       }
 
 replicate-bytes : (n x : ℕ) → x < 256 → Bytes (replicate n x)

@@ -20,10 +20,10 @@ use Rattle.tag.specs.Calls.{Call, Act, calls, waits}
 use Rattle.demands.specs.History.{step}
 use Rattle.demands.specs.Time.{World, at, bytesGiven, called, slept, ran, runs}
 use Rattle.demands.specs.Among.{NoneIn, tenthsIn}
-use Rattle.demands.specs.RingLasts.{timeoutFrom, Disturbs, pressed, rung as ringAgain, keySet as newKey, cleared as keyCleared}
+use Rattle.demands.specs.RingLasts.{timeoutFrom, Disturbs, pressed, rung as ringAgain, cleared as keyCleared, broughtIn as newKey}
 use Rattle.demands.proofs.Formed.{formed}
 use Rattle.demands.proofs.RingTenths.{silent-call, ringing-call, ending-call}
-use Rattle.demands.proofs.CallsOnSound.{Calm, Does, calmly, pressedSilent, pressedRinging, rung, keySet, cleared, call-does, tenthsOf, begins, time-passes, time-stands}
+use Rattle.demands.proofs.CallsOnSound.{Calm, Does, calmly, pressedSilent, pressedRinging, rung, cleared, broughtIn, call-does, tenthsOf, begins, time-passes, time-stands}
 
 -- A world that an act left as it was, as far as the ring and its notices go
 record Idle (v w : World) : Type 0 where
@@ -60,8 +60,8 @@ call-turn c room v (calmly calm) free = idle refl (calm-idle c room v calm)
 call-turn c room v (pressedSilent p s) free = absurd (free (pressed p))
 call-turn c room v (pressedRinging p e) free = absurd (free (pressed p))
 call-turn c room v (rung a e) free = absurd (free (ringAgain a))
-call-turn c room v (keySet a e) free = absurd (free (newKey a))
 call-turn c room v (cleared a e) free = absurd (free (keyCleared a))
+call-turn c room v (broughtIn b e) free = absurd (free (newKey b))
 
 module _ (n room : ℕ) (v : World) where
   slept-later : leb 42 room ≡ true → step (waits n room) (v .unit) ≡ tenths n (v .unit) → Later n v (slept n room v)
@@ -116,7 +116,7 @@ silent-turn {a} {v} {z} (later n t i) e rest =
     let none : ran slept a v .notifications ≡ v .notifications = i .notices ∙ rw (c .nothing, append-nil) in
     record {
       silent = r .silent;
-      ringNonce = r .ringNonce ∙ ap (λ (x : TagUnit). x .«ring_nonce») (i .unit) ∙ c .rest .6;
+      ringNonce = r .ringNonce ∙ ap (λ (x : TagUnit). x .«ring_nonce») (i .unit) ∙ c .rest .7;
       notices = r .notices ∙ none;
     }
 

@@ -21,7 +21,7 @@ use Rattle.unit.specs.Change.{spent}
 use Rattle.ringing.specs.Ringing.{ringLegal, ringMask, heldVolume, askedMask, askedTimeout, allOfNone, wholeMask}
 use Rattle.demands.specs.History.{step, writes}
 use Rattle.demands.specs.RingLasts.{Starts, askedIn}
-use Rattle.demands.proofs.WritesOnSound.{Effect, apart, rings, stops, rekeys, clears, admitted}
+use Rattle.demands.proofs.WritesOnSound.{Effect, apart, rings, stops, clears, admitted}
 
 -- a ring that this unit has begun: the nonce and the key are those of the unit before
 pub record Begun (u v : TagUnit) (t : ℕ) : Type 0 where
@@ -79,7 +79,6 @@ module _ (u v : TagUnit) (w : List ℕ) (answer : List ℕ) (long : length w ≡
         identity = ap (λ (x : TagUnit). x .identity) is;
       }
   effect-begun (stops id legal none e) = absurd (mask-some (u .settings) (drop 10 w) legal (λ z. some (sym (getD-drop 10 w 0 0) ∙ z)) none)
-  effect-begun (rekeys id e) = absurd (omega arith)
   effect-begun (clears id e) = absurd (omega arith)
 
 pub begun : (u : TagUnit) (w : List ℕ) (room : ℕ) → Starts w room u → Begun u (step (writes w room) u .unit) (askedIn w)

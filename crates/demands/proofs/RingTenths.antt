@@ -32,6 +32,7 @@ pub record Aside (u v : TagUnit) : Type 0 where
   pub nonce : v .nonce ≡ u .nonce
   pub accounts : v .accounts ≡ u .accounts
   pub identity : v .identity ≡ u .identity
+  pub waiting : v .waiting ≡ u .waiting
   pub protection : v .protection ≡ u .protection
   pub pairing : v .pairing ≡ u .pairing
   pub battery : v .battery ≡ u .battery
@@ -44,6 +45,7 @@ then f g =
       nonce = g .nonce ∙ f .nonce;
       accounts = g .accounts ∙ f .accounts;
       identity = g .identity ∙ f .identity;
+      waiting = g .waiting ∙ f .waiting;
       protection = g .protection ∙ f .protection;
       pairing = g .pairing ∙ f .pairing;
       battery = g .battery ∙ f .battery;
@@ -63,6 +65,7 @@ tenth-aside u =
       nonce = r .nonce;
       accounts = r .accounts;
       identity = r .identity;
+      waiting = r .waiting;
       protection = r .protection;
       pairing = r .pairing;
       battery = r .battery;
@@ -223,7 +226,7 @@ silent-call n u e =
       nothing = h .nothing;
       ended = h .ended;
       rest =
-          (a .settings, tt, a .nonce, a .accounts, a .identity, h .hushed ∙ sym e, h .nonce, a .protection, tt, a .pairing, a .battery, a .identifier);
+          (a .settings, tt, a .nonce, a .accounts, a .identity, a .waiting, h .hushed ∙ sym e, h .nonce, a .protection, tt, a .pairing, a .battery, a .identifier);
     }
 
 pub ringing-call : (n : ℕ) (u : TagUnit) {mask volume left : ℕ} → u .sound ≡ Sound.Ringing mask volume left → n < left
@@ -236,7 +239,7 @@ ringing-call n u e h =
       nonce = o .nonce;
       nothing = o .nothing;
       ended = o .ended;
-      rest = (a .settings, tt, a .nonce, a .accounts, a .identity, tt, o .nonce, a .protection, tt, a .pairing, a .battery, a .identifier);
+      rest = (a .settings, tt, a .nonce, a .accounts, a .identity, a .waiting, tt, o .nonce, a .protection, tt, a .pairing, a .battery, a .identifier);
     }
 
 pub ending-call : (n : ℕ) (u : TagUnit) {mask volume left : ℕ} → u .sound ≡ Sound.Ringing mask volume left → 1 ≤ left → left ≤ n
@@ -249,5 +252,5 @@ ending-call n u e some h =
       nonce = o .nonce;
       notice = o .notice;
       ended = o .ended;
-      rest = (a .settings, tt, a .nonce, a .accounts, a .identity, tt, tt, a .protection, tt, a .pairing, a .battery, a .identifier);
+      rest = (a .settings, tt, a .nonce, a .accounts, a .identity, a .waiting, tt, tt, a .protection, tt, a .pairing, a .battery, a .identifier);
     }

@@ -2,7 +2,7 @@
 -- judged on a unit that is well formed; 0x05 and 0x07 need its identity key.
 use Prim.Native.Nat.{ℕ, _≤_, _<_}
 use mathlib.Core.Path.{_≡_, refl}
-use mathlib.Core.Bool.{Bool, true, false, cond, not, _&&_, _||_}
+use mathlib.Core.Bool.{Bool, true, false, cond, not, _||_}
 use mathlib.Core.List.{List}
 use mathlib.Core.Option.{Option, some, none}
 use native.Mathlib.Omega.{arith}
@@ -21,9 +21,9 @@ use Rattle.unit.specs.Ringable.{inside}
 use Rattle.unit.specs.WellFormed.{wellFormed, heldKeys, rowOf, ownerKey, owned}
 use Rattle.unit.specs.Change.{spent, withAccounts}
 use Rattle.unit.proofs.Lines.{RingLines, VolumeLines, lines, held-count, settings-legal}
-use Rattle.unit.proofs.Kept.{fresh-formed, clock-kept, battery-kept, pairing-kept, nonce-kept, spent-kept, owner-kept, identity-kept, silenced-kept, ring-kept, protection-kept, unlent-kept}
+use Rattle.unit.proofs.Kept.{fresh-formed, clock-kept, battery-kept, pairing-kept, nonce-kept, spent-kept, owner-kept, waiting-kept, silenced-kept, ring-kept, protection-kept}
 use Rattle.authentication.specs.Judgement.{Judgement, accepts, rejects, lastNonce, tagged, usedKey, onlyIf, signedByOwner, under, concluded}
-use Rattle.provisioning.specs.Provisioning.{readParameters, readState, setKey, clearKey, recoverKey, claimed, rekeyed, cleared}
+use Rattle.provisioning.specs.Provisioning.{readParameters, readState, setKey, clearKey, recoverKey, claimed, awaiting, cleared}
 use Rattle.ringing.specs.Ringing.{ring, rung, readSound, skips, ringLegal, ringMask, allOfNone, askedVolume, askedTimeout, heldVolume}
 use Rattle.ringing.specs.Protecting.{protect, unprotect}
 use Rattle.requests.specs.Write.{byId, keyThere, judged, written}
@@ -103,8 +103,8 @@ module _ (u : TagUnit) (w : wellFormed u ≡ true) (q : Request) where
   unfolding readState
   state-forms = key-forms (usedKey u q) (λ key found. accepted (owned-formed (u .accounts .owner) key refl (used-held u q key found)))
 
-  rekeyed-formed : (identity : List ℕ) → owned (u .accounts .owner) ≡ true → wellFormed (rekeyed identity u) ≡ true
-  rekeyed-formed identity o = identity-kept _ (unlent-kept _ (silenced-kept u w)) identity o
+  awaiting-formed : (identity : List ℕ) → owned (u .accounts .owner) ≡ true → wellFormed (awaiting identity u) ≡ true
+  awaiting-formed identity o = waiting-kept u w identity o
 
   set-forms : Forms (setKey u q)
   unfolding setKey ownerKey
@@ -112,7 +112,7 @@ module _ (u : TagUnit) (w : wellFormed u ≡ true) (q : Request) where
       key-forms (signedByOwner u q)
       (λ key found.
       let o = owner-is (u .accounts .owner) (heldKeys (u .accounts)) key (owner-signed u q key found) in
-      search (forms, tested Forms, rekeyed-formed))
+      search (forms, tested Forms, awaiting-formed))
 
   cleared-formed : wellFormed (cleared u) ≡ true
   unfolding cleared

@@ -1,5 +1,5 @@
--- What an accepted write did, as far as nonce and keys go: it set a key, it cleared, it recovered, or it left nonce, account keys and
--- identity key alone. Each handler is gone through once, check by check.
+-- What an accepted write did, as far as nonce and keys go: it set a waiting key, it cleared, it recovered, or it left nonce, account keys and
+-- both identity keys alone. Each handler is gone through once, check by check.
 use Prim.Native.Nat.{ℕ}
 use mathlib.Core.Path.{_≡_, refl, sym, ap, _∙_}
 use mathlib.Core.Bool.{Bool, true, false, cond, _&&_, _||_}
@@ -19,7 +19,7 @@ use Rattle.unit.specs.WellFormed.{wellFormed, ownerKey}
 use Rattle.unit.specs.Change.{spent}
 use Rattle.unit.specs.Outcome.{Outcome, giving, refusing}
 use Rattle.authentication.specs.Judgement.{Judgement, accepts, rejects, answered, under, usedKey, signedByOwner, tagged, proves, lastNonce, concluded}
-use Rattle.provisioning.specs.Provisioning.{readParameters, readState, setKey, mayReplace, rekeyed, clearKey, cleared, recoverKey, claimed}
+use Rattle.provisioning.specs.Provisioning.{readParameters, readState, setKey, mayReplace, awaiting, clearKey, cleared, recoverKey, claimed}
 use Rattle.ringing.specs.Ringing.{skips, ringLegal, ringMask, ring, rung, readSound}
 use Rattle.ringing.specs.Protecting.{flagOf, protect, unprotect}
 use Rattle.requests.specs.Write.{byId, keyThere, judged, written}
@@ -28,11 +28,12 @@ use Rattle.demands.specs.History.{step}
 use Rattle.demands.proofs.Writes.{owner-signed}
 use Rattle.demands.proofs.Guards.{Met, barred, passed, met, not-both}
 
--- the same nonce, table of account keys and identity key; and the same owner's key, where there was an owner
+-- the same nonce, table of account keys, key in force and waiting key; and the same owner's key, where there was an owner
 pub record Alone (u v : TagUnit) : Type 0 where
   pub nonce : v .nonce ≡ u .nonce
   pub table : v .accounts .keys ≡ u .accounts .keys
   pub identity : v .identity ≡ u .identity
+  pub waiting : v .waiting ≡ u .waiting
   pub owner : (key : List ℕ) → ownerKey (u .accounts) ≡ some key → ownerKey (v .accounts) ≡ some key
 
 pub alone : (u : TagUnit) → Alone u u
@@ -47,7 +48,7 @@ pub record Keyless (id : ℕ) : Type 0 where
 pub data Did (u : TagUnit) (q : Request) : Judgement → Type 0 where
   refused : (n : ℕ) → Did u q (rejects n)
   set : {answer : List ℕ} (key : List ℕ) → q .id ≡ 0x02 → ownerKey (u .accounts) ≡ some key
-      → Did u q (accepts (rekeyed (decryptedKey key (q .additional)) u) answer)
+      → Did u q (accepts (awaiting (decryptedKey key (q .additional)) u) answer)
   clear : {answer : List ℕ} → q .id ≡ 0x03 → Did u q (accepts (cleared u) answer)
   recovered : (key : List ℕ) → q .id ≡ 0x04 → ownerKey (u .accounts) ≡ some key
       → Did u q (accepts u (answered (recoveryKey (u .identity .bytes)) u q (encryptedKey key (u .identity .bytes))))
@@ -111,6 +112,7 @@ module _ (u : TagUnit) (q : Request) where
           nonce = refl;
           table = claimed-table (u .accounts .owner) key (u .accounts);
           identity = refl;
+          waiting = refl;
           owner = claimed-owner (u .accounts .owner) key (u .accounts) refl;
         }))
 

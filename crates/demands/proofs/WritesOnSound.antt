@@ -57,7 +57,6 @@ pub data Effect (u : TagUnit) (q : Request) (v : TagUnit) (answer : List ℕ) : 
       → Effect u q v answer
   stops : q .id ≡ 0x05 → ringLegal (u .settings) (q .additional) ≡ true → ringMask (u .settings) (q .additional) ≡ 0 → v .consent ≡ u .consent
       → Effect u q v answer
-  rekeys : q .id ≡ 0x02 → v .consent ≡ u .consent → Effect u q v answer
   clears : q .id ≡ 0x03 → v .consent ≡ 0 → Effect u q v answer
 
 -- How the request q was judged on the unit u
@@ -122,10 +121,14 @@ module _ (u : TagUnit) (w : wellFormed u ≡ true) (q : Request) where
       (apart refl (λ (z : q .id ≡ 0x05). omega arith) (record { sound = refl; ringNonce = refl; identity = refl; consent = refl })))
 
   set-judged : q .id ≡ 0x02 → J (setKey u q)
-  unfolding setKey
+  unfolding setKey signed
   set-judged e =
       with-key (signedByOwner u q) _
-      (λ key f. checked (mayReplace u q) 0x80 (λ ok. granted (by-owner key f (λ o. rw e (keySet o))) (rekeys e refl)))
+      (λ key f.
+      checked (mayReplace u q) 0x80
+      (λ ok.
+      granted (by-owner key f (λ o. rw e (keySet o)))
+      (apart refl (λ (z : q .id ≡ 0x05). omega arith) (record { sound = refl; ringNonce = refl; identity = refl; consent = refl }))))
 
   clear-judged : q .id ≡ 0x03 → J (clearKey u q)
   unfolding clearKey cleared

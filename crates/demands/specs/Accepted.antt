@@ -18,7 +18,7 @@ use Rattle.unit.specs.declared.Protection.{Protection}
 use Rattle.unit.specs.WellFormed.{wellFormed}
 use Rattle.tag.specs.Calls.{read, Act, calls}
 use Rattle.demands.specs.History.{step, writes}
-use Rattle.demands.specs.Spelled.{keyFrom, proofFrom, tagFrom, requestFrom, answerFrom, keyAtPlace, OwnedWith, AllBut, settings, clock, nonce, accounts, identity, sound, ringNonce, protection, consent, pairing, identifier, NonceSpent, OnlySpends}
+use Rattle.demands.specs.Spelled.{keyFrom, proofFrom, tagFrom, requestFrom, answerFrom, keyAtPlace, OwnedWith, AllBut, settings, clock, nonce, accounts, identity, waiting, sound, ringNonce, protection, consent, pairing, identifier, NonceSpent, OnlySpends}
 
 -- an act is served: it gives this answer, and the unit after it is as said
 pub record Serves (a : Act) (u : TagUnit) (answer : List ℕ) (Left : TagUnit → Type 0) : Type 0 where
@@ -32,7 +32,8 @@ pub record Open (u : TagUnit) (room : ℕ) : Type 0 where
   pub fits : 42 ≤ room
 
 -- What a phone sends and is answered with the unit's nonce; and by which keys: "Recovery, ring and protection keys .. 0x01, 0x02, 0x03
--- respectively"
+-- respectively". They are made from the identity key in force: while another waits, "all tags, key proofs, frames and 0x01 answers use the
+-- old key, or none on a new unit"
 module _ (u : TagUnit) where
   abbrev pub sent : ℕ → List ℕ → List ℕ → List ℕ
   sent id key additional = requestFrom id key (u .nonce .bytes) additional
@@ -107,26 +108,29 @@ Silent v = (v .sound ≡ Sound.Silent) × (v .«ring_nonce» ≡ replicate 8 0)
 abbrev pub Unlent : TagUnit → Type 0
 Unlent v = v .identifier ≡ record { held = false; r = replicate 20 0; id = replicate 20 0; window = 0 }
 
--- "The first 32 data bytes, two blocks decrypted with the owner key, become the identity key at once (house). Sound ends without notice and
--- the identifier is dropped; protection stays (house)"
-pub record Rekeyed (key C : List ℕ) (u v : TagUnit) : Type 0 where
+-- no key waits: zeros in its room
+abbrev pub NoneWaits : TagUnit → Type 0
+NoneWaits v = v .waiting ≡ record { held = false; bytes = replicate 32 0 }
+
+-- "The first 32 data bytes, two blocks decrypted with the owner key", are the key that now waits: "Until then the accepted key waits"; it
+-- "replaces the waiting one". The key in force, sound and identifier stay
+pub record Awaits (key C : List ℕ) (u v : TagUnit) : Type 0 where
   pub nonceSpent : NonceSpent u v
-  pub identityIs : v .identity ≡ record { held = true; bytes = InvAES128 key (take 16 C) ++ InvAES128 key (take 16 (drop 16 C)) }
-  pub silent : Silent v
-  pub unlent : Unlent v
-  pub rest : AllBut (nonce ∷ identity ∷ sound ∷ ringNonce ∷ identifier ∷ []) u v
+  pub waitingIs : v .waiting ≡ record { held = true; bytes = InvAES128 key (take 16 C) ++ InvAES128 key (take 16 (drop 16 C)) }
+  pub rest : AllBut (nonce ∷ waiting ∷ []) u v
 
 -- "The unit becomes fresh, keeping settings, clock, last nonce (spent), battery and pairing (house)"; "Fresh: no keys, nonce, sound,
--- protection, consent, pairing or identifier"
+-- protection, consent, pairing or identifier"; "0x03 drops both", the key in force and the waiting one
 pub record Cleared (u v : TagUnit) : Type 0 where
   pub nonceSpent : NonceSpent u v
   pub keyless : v .accounts ≡ record { count = 0; owner = Owner.Nobody; keys = replicate 80 0 }
   pub unset : v .identity ≡ record { held = false; bytes = replicate 32 0 }
+  pub noneWaits : NoneWaits v
   pub silent : Silent v
   pub unprotected : v .protection ≡ Protection.Off
   pub unconsented : v .consent ≡ 0
   pub unlent : Unlent v
-  pub rest : AllBut (nonce ∷ accounts ∷ identity ∷ sound ∷ ringNonce ∷ protection ∷ consent ∷ identifier ∷ []) u v
+  pub rest : AllBut (nonce ∷ accounts ∷ identity ∷ waiting ∷ sound ∷ ringNonce ∷ protection ∷ consent ∷ identifier ∷ []) u v
 
 -- "Data: the identity key, two blocks encrypted with the owner key"
 abbrev pub keyBlocks : List ℕ → List ℕ → List ℕ
@@ -204,11 +208,11 @@ pub record Accepted : Type 0 where
       → Serves (writes (sent u 0x01 (keyAtPlace u p) []) room) u
       (answer u 0x01 (keyAtPlace u p) ((cond (u .identity .held) 0x01 0x00 + ownerBit (u .accounts .owner) p) ∷ standing u))
       (OwnerKnown p u)
-  -- "0x02: owner key .. 48: the last 8 bytes prove the held key. 40: none is held"
+  -- "0x02: owner key .. 48: the last 8 bytes prove the held key. 40: none is held"; "still judged against the old key", whatever waits
   pub keySet : (u : TagUnit) (room : ℕ) (key C : List ℕ) → Open u room → OwnedWith u key → u .identity .held ≡ false → length C ≡ 32
-      → Serves (writes (sent u 0x02 key C) room) u (answer u 0x02 key []) (Rekeyed key C u)
+      → Serves (writes (sent u 0x02 key C) room) u (answer u 0x02 key []) (Awaits key C u)
   pub keyReplaced : (u : TagUnit) (room : ℕ) (key C : List ℕ) → Open u room → OwnedWith u key → u .identity .held ≡ true → length C ≡ 32
-      → Serves (writes (sent u 0x02 key (C ++ keyProofOf u)) room) u (answer u 0x02 key []) (Rekeyed key C u)
+      → Serves (writes (sent u 0x02 key (C ++ keyProofOf u)) room) u (answer u 0x02 key []) (Awaits key C u)
   -- "0x03: owner key and key proof"
   pub keyCleared : (u : TagUnit) (room : ℕ) (key : List ℕ) → Open u room → OwnedWith u key → u .identity .held ≡ true
       → Serves (writes (sent u 0x03 key (keyProofOf u)) room) u (answer u 0x03 key []) (Cleared u)

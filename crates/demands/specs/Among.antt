@@ -1,13 +1,14 @@
 -- What stands among the calls of a list, in the paper's terms and literal numbers: a write that was accepted, by its ID, a press of the
--- button with room, and the tenths that its elapsed calls come to.
+-- button with room, a disconnect that brings a key in, and the tenths that its elapsed calls come to.
 use Prim.Native.Nat.{ℕ, _+_, _≤_}
 use mathlib.Core.Path.{_≡_}
-use mathlib.Core.Bool.{cond}
+use mathlib.Core.Bool.{true, cond}
 use mathlib.Core.List.{List, [], _∷_}
 use lib.Dec.{leb}
 use lib.ListN.{getD}
 use Rattle.unit.specs.declared.TagUnit.{TagUnit}
-use Rattle.tag.specs.Calls.{Written, write, button, Act, calls, waits}
+use Rattle.unit.specs.WellFormed.{wellFormed}
+use Rattle.tag.specs.Calls.{Written, write, button, disconnect, Act, calls, waits}
 use Rattle.demands.specs.History.{step}
 use Rattle.demands.specs.Nonces.{Succeeds}
 
@@ -23,6 +24,10 @@ pub data Accepts (id : ℕ) : Act → TagUnit → Type 0 where
 -- a press with room for an answer, "6 | lent answer bytes fewer than 42"
 pub data Presses : Act → Type 0 where
   presses : {room : ℕ} → 42 ≤ room → Presses (calls button room)
+
+-- "a disconnect that brings a waiting key in": on a well-formed unit, as it is else refused with 2, on which a key waits
+pub data BringsIn : Act → TagUnit → Type 0 where
+  bringsIn : {room : ℕ} {u : TagUnit} → wellFormed u ≡ true → u .waiting .held ≡ true → BringsIn (calls disconnect room) u
 
 -- "A refused elapsed call counts as no time."
 abbrev pub tenthsIn : List Act → ℕ

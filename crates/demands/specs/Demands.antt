@@ -16,6 +16,9 @@
 -- the same answers to the other calls, the same notifications in order at the same tenth of a second, and the same final unit. All of these
 -- equal what the plain tag of our rules, moving one tenth at a time, gives for either list. Reason: a ring asked for ten minutes must last ten
 -- minutes whether the chip dozed once or a thousand times."
+--
+-- And of the change that keeps a new key waiting: "Demands 2 and 3 count the disconnect as one more event, and recovery speaks of the key in
+-- force."
 use Rattle.demands.specs.Ends.{Demand1}
 use Rattle.demands.specs.Formed.{Formed}
 use Rattle.demands.specs.Accepted.{Accepted}
@@ -26,6 +29,7 @@ use Rattle.demands.specs.Events.{Events}
 use Rattle.demands.specs.Nonces.{Demand2Nonces}
 use Rattle.demands.specs.Recovery.{Demand2Recovery}
 use Rattle.demands.specs.RecoveryExample.{RecoveryExample}
+use Rattle.demands.specs.WaitingKey.{WaitingKey}
 use Rattle.demands.specs.Time.{Demand3}
 use Rattle.demands.specs.RingLasts.{RingLasts}
 use Rattle.demands.specs.ConsentLasts.{ConsentLasts}
@@ -37,13 +41,15 @@ pub record Demands : Type 0 where
   pub formed : Formed
   pub refusals : RefusalOrder
   pub wellFormed : WellFormedExactly
-  -- 2: what each call gives and leaves, and which writes are refused; nonces; recovery, with an example of it; consent; the paper's examples
+  -- 2: what each call gives and leaves, and which writes are refused; nonces; recovery, with an example of it; the key that waits; consent; the
+  -- paper's examples
   pub accepted : Accepted
   pub refused : Refused
   pub events : Events
   pub nonces : Demand2Nonces
   pub recovered : Demand2Recovery
   pub recoveredOnce : RecoveryExample
+  pub waitingKey : WaitingKey
   pub consentLasts : ConsentLasts
   pub edges : Edges
   -- 3: however time is cut; and the reason given for it

@@ -1,6 +1,6 @@
--- Demand 2, what is no read and no write: a new unit, the button, pairing, battery, account keys, the lent identifier, the frame and one tenth
--- of time. Each gives these bytes and changes these parts of a well-formed unit, in literal numbers, and no other part. More tenths than one
--- are that many single tenths by demand 3.
+-- Demand 2, what is no read and no write: a new unit, the button, pairing, battery, account keys, the disconnect, the lent identifier, the
+-- frame and one tenth of time. Each gives these bytes and changes these parts of a well-formed unit, in literal numbers, and no other part.
+-- More tenths than one are that many single tenths by demand 3.
 use Prim.Native.Nat.{ℕ, _+_, _*_, _-_, _/_, _%_, _≤_, _<_}
 use mathlib.Core.Path.{_≡_}
 use mathlib.Core.Bool.{Bool, true, false}
@@ -15,24 +15,25 @@ use Rattle.unit.specs.declared.Owner.{Owner}
 use Rattle.unit.specs.declared.Sound.{Sound}
 use Rattle.unit.specs.declared.Protection.{Protection}
 use Rattle.unit.specs.WellFormed.{wellFormed}
-use Rattle.tag.specs.Calls.{newUnit, Call, button, accountKey, frame, calls, waits}
+use Rattle.tag.specs.Calls.{newUnit, Call, button, accountKey, disconnect, frame, calls, waits}
 use Rattle.demands.specs.History.{step}
-use Rattle.demands.specs.Spelled.{keyAtPlace, AllBut, Part, clock, accounts, sound, ringNonce, consent}
-use Rattle.demands.specs.Accepted.{Serves, Silent, Unlent, windowOf, stopNotice}
+use Rattle.demands.specs.Spelled.{keyAtPlace, AllBut, Part, clock, accounts, identity, waiting, sound, ringNonce, consent}
+use Rattle.demands.specs.Accepted.{Serves, NoneWaits, Silent, Unlent, windowOf, stopNotice}
 
 -- "calibrated power, a whole number from -100 to 20": negsuc n is -(n + 1)
 abbrev pub PowerWithin : ℤ → Type 0
 PowerWithin (pos n) = n ≤ 20
 PowerWithin (negsuc n) = n + 1 ≤ 100
 
--- "Fresh: no keys, nonce, sound, protection, consent, pairing or identifier; battery 0"; "A fresh unit starts at 0". A record with "room
--- for absent things not zero, is not well formed"
+-- "Fresh: no keys, nonce, sound, protection, consent, pairing or identifier; battery 0"; "A fresh unit starts at 0". No key: none in force,
+-- and none that waits. A record with "room for absent things not zero, is not well formed"
 pub record Fresh (power : ℤ) (components selectable : ℕ) (v : TagUnit) : Type 0 where
   pub settingsAre : v .settings ≡ record { power = power; components = components; selectable = selectable }
   pub clockIs : v .clock ≡ record { seconds = 0; tenth = 0 }
   pub noNonce : v .nonce ≡ record { held = false; live = false; bytes = replicate 8 0 }
   pub noAccounts : v .accounts ≡ record { count = 0; owner = Owner.Nobody; keys = replicate 80 0 }
   pub noIdentity : v .identity ≡ record { held = false; bytes = replicate 32 0 }
+  pub noneWaits : NoneWaits v
   pub silent : Silent v
   pub unprotected : v .protection ≡ Protection.Off
   pub unconsented : v .consent ≡ 0
@@ -64,6 +65,15 @@ pub record Keeps (key : List ℕ) (u v : TagUnit) : Type 0 where
   pub owner : v .accounts .owner ≡ u .accounts .owner
   pub keys : v .accounts .keys ≡ take (16 * u .accounts .count) (u .accounts .keys) ++ (key ++ drop (16 * u .accounts .count + 16) (u .accounts .keys))
   pub rest : AllBut (accounts ∷ []) u v
+
+-- The new key "takes effect right after the connection ends"; "Sound ends and the identifier is dropped at a disconnect that brings a waiting
+-- key in"
+pub record BroughtIn (u v : TagUnit) : Type 0 where
+  pub inForce : v .identity ≡ record { held = true; bytes = u .waiting .bytes }
+  pub noneWaits : NoneWaits v
+  pub silent : Silent v
+  pub unlent : Unlent v
+  pub rest : AllBut (identity ∷ waiting ∷ sound ∷ ringNonce ∷ Part.identifier ∷ []) u v
 
 pub record Lends (r id : List ℕ) (u v : TagUnit) : Type 0 where
   pub identifierIs : v .identifier ≡ record { held = true; r = r; id = id; window = windowOf (u .clock .seconds) }
@@ -120,6 +130,9 @@ pub record Events : Type 0 where
   pub keyAdded : (u : TagUnit) (room : ℕ) (key : List ℕ) → wellFormed u ≡ true → length key ≡ 16 → u .accounts .count < 5
       → ((p : ℕ) → p < u .accounts .count → keyAtPlace u p ≡ key → ⊥)
       → Serves (calls (accountKey key) room) u [] (Keeps key u)
+  -- without answer bytes, and without a notice; "any other disconnect changes nothing"
+  pub keyBroughtIn : (u : TagUnit) (room : ℕ) → wellFormed u ≡ true → u .waiting .held ≡ true → Serves (calls disconnect room) u [] (BroughtIn u)
+  pub nothingBroughtIn : (u : TagUnit) (room : ℕ) → wellFormed u ≡ true → u .waiting .held ≡ false → Serves (calls disconnect room) u [] (Same u)
   -- "The host lends, for the current window, r (20 bytes) and the identifier (20 bytes)"
   pub identifierLent : (u : TagUnit) (room : ℕ) (r id : List ℕ) → wellFormed u ≡ true → length r ≡ 20 → length id ≡ 20 → u .identity .held ≡ true
       → Serves (calls (Call.identifier r id) room) u [] (Lends r id u)

@@ -5,7 +5,7 @@ use mathlib.Core.List.{List, [], _∷_, _++_}
 use lib.ListN.{getD}
 use Rattle.unit.specs.declared.TagUnit.{TagUnit}
 use Rattle.unit.specs.Outcome.{Outcome}
-use Rattle.tag.specs.Calls.{Call, read, write, button, pairing, battery, accountKey, identifier, frame, Act, calls, waits, act}
+use Rattle.tag.specs.Calls.{Call, read, write, button, pairing, battery, accountKey, disconnect, identifier, frame, Act, calls, waits, act}
 
 -- what an act does on a unit
 abbrev pub step : Act → TagUnit → Outcome
@@ -32,6 +32,7 @@ handed button = []
 handed (pairing on) = []
 handed (battery level) = []
 handed (accountKey key) = key
+handed disconnect = []
 handed (identifier r id) = r ++ id
 handed frame = []
 

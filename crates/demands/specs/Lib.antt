@@ -8,9 +8,10 @@ pub mod RecordLines
 pub mod RefusalOrder
 pub mod Events
 pub mod Nonces
+pub mod Among
 pub mod Recovery
 pub mod Time
-pub mod Among
+pub mod WaitingKey
 pub mod RingLasts
 pub mod ConsentLasts
 pub mod Edges

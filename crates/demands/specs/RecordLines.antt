@@ -48,6 +48,9 @@ pub record RecordLines (u : TagUnit) : Type 0 where
   -- "perhaps a 32-byte identity key (then there is an owner)"
   pub keyOwned : u .identity .held ≡ true → u .accounts .owner ≡ Owner.Nobody → ⊥
   pub noKey : u .identity .held ≡ false → Zeros (u .identity .bytes)
+  -- "A waiting key without an owner isn't well formed." Without a key in force it is, and so is one that equals it
+  pub waitingOwned : u .waiting .held ≡ true → u .accounts .owner ≡ Owner.Nobody → ⊥
+  pub noneWaits : u .waiting .held ≡ false → Zeros (u .waiting .bytes)
   -- "The last issued nonce, if any, and whether it is live": "live without a nonce" is not well formed
   pub notLive : u .nonce .held ≡ false → u .nonce .live ≡ false
   pub noNonce : u .nonce .held ≡ false → Zeros (u .nonce .bytes)

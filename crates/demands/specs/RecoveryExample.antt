@@ -1,19 +1,18 @@
 -- An example that the demand on recovery is not empty, for any account key, any 32 encrypted bytes and any nonces: from a fresh unit a key
--- is added, made owner by 0x01 and used to set an identity key by 0x02; after a press of the button 0x04 is accepted, and answers the 32
--- bytes. The writes are the bytes that a phone sends, which knows the keys and the nonces that it read.
+-- is added, made owner by 0x01 and used to set an identity key by 0x02, which the disconnect brings in; after a press of the button 0x04 is
+-- accepted, and answers the 32 bytes. The writes are the bytes that a phone sends, which knows the keys and the nonces that it read.
 use Prim.Native.Nat.{ℕ}
 use mathlib.Core.Path.{_≡_}
 use mathlib.Core.Bool.{true}
 use mathlib.Core.List.{List, [], _∷_, _++_}
-use lib.ListN.{length, take, drop, replicate}
+use lib.ListN.{length, getD, take, drop, replicate}
 use lib.IntN.{pos}
 use Rattle.laws.specs.Answer.{gives}
 use Rattle.primitives.specs.Standards.{InvAES128}
-use Rattle.wire.specs.Shape.{parsed}
 use Rattle.unit.specs.declared.Settings.{Settings}
 use Rattle.unit.specs.Change.{fresh}
 use Rattle.unit.specs.WellFormed.{settingsLegal}
-use Rattle.tag.specs.Calls.{read, button, accountKey, Act, calls}
+use Rattle.tag.specs.Calls.{read, button, accountKey, disconnect, Act, calls}
 use Rattle.demands.specs.History.{step, after, writes, Bytes, AllOfBytes}
 use Rattle.demands.specs.Spelled.{keyFrom, requestFrom}
 use Rattle.demands.specs.Recovery.{SetBy, dataOf}
@@ -41,6 +40,7 @@ provisioning key C n₁ n₂ n₃ =
     ∷ writes (requestFrom 0x01 key n₁ []) 42
     ∷ calls (read n₂) 42
     ∷ writes (requestFrom 0x02 key n₂ C) 42
+    ∷ calls disconnect 0
     ∷ calls button 42
     ∷ calls (read n₃) 42
     ∷ []
@@ -53,7 +53,7 @@ recovering key C n₃ = requestFrom 0x04 (keyFrom 0x01 (InvAES128 key (take 16 C
 pub record Shown (s : Settings) (key C n₁ n₂ n₃ : List ℕ) : Type 0 where
   pub bytes : AllOfBytes (provisioning key C n₁ n₂ n₃)
   pub setBy : SetBy (fresh s) (provisioning key C n₁ n₂ n₃) C
-  pub recovers : parsed (recovering key C n₃) .id ≡ 0x04
+  pub recovers : getD (recovering key C n₃) 0 0 ≡ 0x04
   pub accepted : (answer : List ℕ)
       × (step (writes (recovering key C n₃) 42) (after (provisioning key C n₁ n₂ n₃) (fresh s)) .result ≡ gives answer)
       × (dataOf answer ≡ C)

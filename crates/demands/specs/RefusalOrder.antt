@@ -24,7 +24,7 @@ pub data Lent : Act → ℕ → Type 0 where
   toFrame : {room : ℕ} → Lent (calls frame room) room
   toElapsed : {tenths room : ℕ} → Lent (waits tenths room) room
 
--- a call's own refusals, on a well-formed unit. Button, elapsed and pairing have none
+-- a call's own refusals, on a well-formed unit. Button, elapsed, pairing and disconnect have none
 pub data Own (u : TagUnit) : Act → ℕ → Type 0 where
   -- 3: "lent nonce not 8 bytes, or equal to the last issued"
   nonceLength : {nonce : List ℕ} {room : ℕ} → (length nonce ≡ 8 → ⊥) → Own u (calls (read nonce) room) 3

@@ -90,7 +90,8 @@ pub data Reason (u : TagUnit) (w : List ℕ) : ℕ → Type 0 where
   wrongTag : {id size : ℕ} {tag additional key : List ℕ} → Sent w id size tag additional → Signer u id key → (Skipped u id → ⊥)
       → (tag ≡ tagFrom key (u .nonce .bytes) id size additional → ⊥)
       → Reason u w 0x80
-  -- "48: the last 8 bytes prove the held key. 40: none is held."
+  -- "48: the last 8 bytes prove the held key. 40: none is held.": the one in force, for a write while a key waits "is still judged against the
+  -- old key"
   proofOfNoKey : {tag additional : List ℕ} → Sent w 0x02 48 tag additional → u .identity .held ≡ false → Reason u w 0x80
   keyWithoutProof : {tag additional : List ℕ} → Sent w 0x02 40 tag additional → u .identity .held ≡ true → Reason u w 0x80
   wrongProofOfHeld : {tag additional : List ℕ} → Sent w 0x02 48 tag additional

@@ -18,7 +18,7 @@ use Rattle.demands.specs.Spelled.{keyFrom, answerFrom, clock, sound, rin
 use Rattle.demands.specs.History.{step, after, writes}
 use Rattle.demands.specs.Nonces.{Succeeds, Issue}
 use Rattle.demands.specs.Time.{World, slept, runs, start}
-use Rattle.demands.specs.Among.{NoneIn, Accepts, Presses, tenthsIn}
+use Rattle.demands.specs.Among.{NoneIn, Accepts, Presses, BringsIn, tenthsIn}
 
 -- "A ring notice has ID 0x05, the ring key, data: status (0 started, 2 timeout, 3 button, 4 request), mask, tenths left; zeros once stopped.
 -- Timeout and button notices use the nonce of the accepted ring"
@@ -61,13 +61,14 @@ pub record Starts (bytes : List ℕ) (room : ℕ) (u : TagUnit) : Type 0 where
 abbrev pub askedIn : List ℕ → ℕ
 askedIn bytes = 256 * getD bytes 11 0 + getD bytes 12 0
 
--- what ends a ring before its time or replaces it: "A press while ringing stops it", another accepted 0x05, and an accepted 0x02 ("Sound ends
--- without notice") or 0x03 ("The unit becomes fresh")
+-- what ends a ring before its time or replaces it: "A press while ringing stops it", another accepted 0x05, an accepted 0x03 ("The unit
+-- becomes fresh"), and the end of the connection in which a key was set: "Sound ends .. at a disconnect that brings a waiting key in". An
+-- accepted 0x02 by itself does not, and no other disconnect
 pub data Disturbs (a : Act) (u : TagUnit) : Type 0 where
   pressed : Presses a → Disturbs a u
   rung : Accepts 0x05 a u → Disturbs a u
-  keySet : Accepts 0x02 a u → Disturbs a u
   cleared : Accepts 0x03 a u → Disturbs a u
+  broughtIn : BringsIn a u → Disturbs a u
 
 -- A ring of t tenths that began in the world v, with this identity key and nonce, and the world z that n tenths later came of it
 pub record Lasts (t : ℕ) (identity nonce : List ℕ) (n : ℕ) (v z : World) : Type 0 where

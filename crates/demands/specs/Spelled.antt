@@ -42,9 +42,9 @@ keyAtPlace u p = take 16 (drop (16 * p) (u .accounts .keys))
 abbrev pub OwnedWith : TagUnit → List ℕ → Type 0
 OwnedWith u key = (p : ℕ) × (u .accounts .owner ≡ Owner.Place p) × (keyAtPlace u p ≡ key)
 
--- The parts of a unit
+-- The parts of a unit: `identity` is the identity key in force, `waiting` the one that waits
 pub data Part : Type 0 where
-  settings clock nonce accounts identity sound ringNonce protection consent pairing battery identifier : Part
+  settings clock nonce accounts identity waiting sound ringNonce protection consent pairing battery identifier : Part
 
 abbrev pub place : Part → ℕ
 place settings = 0
@@ -52,13 +52,14 @@ place clock = 1
 place nonce = 2
 place accounts = 3
 place identity = 4
-place sound = 5
-place ringNonce = 6
-place protection = 7
-place consent = 8
-place pairing = 9
-place battery = 10
-place identifier = 11
+place waiting = 5
+place sound = 6
+place ringNonce = 7
+place protection = 8
+place consent = 9
+place pairing = 10
+place battery = 11
+place identifier = 12
 
 abbrev pub isOneOf : Part → List Part → Bool
 isOneOf p [] = false
@@ -76,6 +77,7 @@ AllBut changed u v =
     × Unless (isOneOf nonce changed) (v .nonce ≡ u .nonce)
     × Unless (isOneOf accounts changed) (v .accounts ≡ u .accounts)
     × Unless (isOneOf identity changed) (v .identity ≡ u .identity)
+    × Unless (isOneOf waiting changed) (v .waiting ≡ u .waiting)
     × Unless (isOneOf sound changed) (v .sound ≡ u .sound)
     × Unless (isOneOf ringNonce changed) (v .«ring_nonce» ≡ u .«ring_nonce»)
     × Unless (isOneOf protection changed) (v .protection ≡ u .protection)

@@ -7,7 +7,7 @@ use Rattle.unit.specs.declared.TagUnit.{TagUnit}
 use Rattle.sizes.specs.Sizes.{answerRoom}
 use Rattle.unit.specs.Outcome.{Outcome}
 use Rattle.tag.specs.Calls as tag
-use Rattle.tag.specs.Calls.{Call, read, write, button, pairing, battery, accountKey, identifier, frame, call}
+use Rattle.tag.specs.Calls.{Call, read, write, button, pairing, battery, accountKey, disconnect, identifier, frame, call}
 use Rattle.notation.specs.Text.{ascii, newline, decimal, hex}
 
 -- a call of the tag, or time
@@ -48,6 +48,7 @@ nameOf button = "button"
 nameOf (pairing on) = "pairing"
 nameOf (battery level) = "battery"
 nameOf (accountKey k) = "key"
+nameOf disconnect = "disconnect"
 nameOf (identifier r id) = "identifier"
 nameOf frame = "frame"
 

@@ -15,7 +15,7 @@ use Rattle.events.specs.declared.Event as code
 use Rattle.events.specs.declared.Event.the-variants as event
 use Rattle.notation.specs.Written.{PutsText}
 use Rattle.notation.specs.Text.{ascii, decimal}
-use Rattle.tag.specs.Calls.{Call, read, write, button, pairing, battery, accountKey, identifier, frame}
+use Rattle.tag.specs.Calls.{Call, read, write, button, pairing, battery, accountKey, disconnect, identifier, frame}
 use Rattle.events.specs.Event.{Event, asks, elapsed, performed, printed, line, bytesText, notesText, refusedText}
 
 -- Our own choice: room for more than any one line prints
@@ -33,6 +33,7 @@ abbrev pub settingOf : Setting → ℕ → List ℕ → List ℕ → Call
 settingOf (setting.Pairing flag) n kept b = pairing flag
 settingOf setting.Battery n kept b = battery n
 settingOf setting.Key n kept b = accountKey b
+settingOf setting.Disconnect n kept b = disconnect
 settingOf setting.Identifier n kept b = identifier kept b
 
 abbrev pub eventOf : code.Event → ℕ → List ℕ → List ℕ → Event

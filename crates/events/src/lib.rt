@@ -23,6 +23,7 @@ pub enum Setting {
     Battery,
     Key,
     Identifier,
+    Disconnect,
 }
 
 // An event. Its number or its bytes, and an identifier's r, stand beside it.
@@ -105,6 +106,12 @@ fn set(
         Setting::Identifier => printing::completed(
             tag::lend_identifier(u, r, bytes),
             b"answer=identifier\n",
+            out,
+            at,
+        ),
+        Setting::Disconnect => printing::completed(
+            tag::disconnect(u),
+            b"answer=disconnect\n",
             out,
             at,
         ),

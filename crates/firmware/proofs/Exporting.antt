@@ -31,8 +31,8 @@ use Rattle.authentication.specs.Judgement.{Judgement, accepts, rejects, conclud
 use Rattle.requests.specs.Write.{written, judged}
 use Rattle.time.specs.Time.{tenths}
 use Rattle.time.specs.Passing.{Passes}
-use Rattle.tag.specs.Own.{nonceFits, issuing, pressed, charged, keeping, lending, showing}
-use Rattle.tag.specs.Calls.{newUnit, Call, read, write, button, pairing, battery, accountKey, identifier, frame, own, lends, guarded, call, elapsed}
+use Rattle.tag.specs.Own.{nonceFits, issuing, pressed, charged, keeping, disconnected, lending, showing}
+use Rattle.tag.specs.Calls.{newUnit, Call, read, write, button, pairing, battery, accountKey, disconnect, identifier, frame, own, lends, guarded, call, elapsed}
 use Rattle.stored.specs.Record.{decoded, encoded, recordSize}
 use Rattle.stored.proofs.RoundTrip.{other-length, noUnit-malformed}
 use Rattle.firmware.specs.Exported.{endedBase, code, resultCode, recordAfter, bytesAfter, endCode, writesBack, Exports, ExportsAnswer, ExportsDigest, Finishes, digestCode}
@@ -101,7 +101,7 @@ pressed-untimed Sound.Silent u = untimed
 pressed-untimed (Sound.Ringing mask volume left) u = untimed
 
 own-untimed : (c : Call) (u : TagUnit) → Untimed (own c u)
-unfolding own issuing written charged keeping lending showing
+unfolding own issuing written charged keeping disconnected lending showing
 own-untimed (read nonce) u = either (nonceFits u nonce) untimed untimed
 own-untimed (write w) u = concluded-untimed (spent u) (judged u (w .bytes))
 own-untimed button u = pressed-untimed (u .sound) u
@@ -110,6 +110,7 @@ own-untimed (battery level) u = either (leb level highestBattery) untimed untime
 own-untimed (accountKey key) u =
     either (not (eqb (length key) accountKeySize)) untimed
     (either (among key (heldKeys (u .accounts))) untimed (either (ltb (u .accounts .count) mostKeys) untimed untimed))
+own-untimed disconnect u = untimed
 own-untimed (identifier r id) u =
     either (not (eqb (length r) identifierSize && eqb (length id) identifierSize)) untimed (either (u .identity .held) untimed untimed)
 own-untimed frame u = either (stands u) untimed untimed

@@ -124,6 +124,18 @@ pub extern "C" fn tag_account_key(bytes: &mut [u8], key: &[u8]) -> u64
     finish::finish(bytes, after, reply)
 }
 
+// The phone has hung up: brings a waiting identity key into force. Refusal: 2.
+#[no_mangle]
+pub extern "C" fn tag_disconnect(bytes: &mut [u8]) -> u64
+    ensures { λ code. ⌜ Exports (call of.disconnect 0 (decoded (now (bytes .entry)))) code (now (bytes .entry)) (now (bytes .exit)) ⌝ }
+{
+    let unit = stored::decode(bytes);
+    let step = tag::disconnect(unit);
+    let after = step.unit;
+    let reply = step.reply;
+    finish::finish(bytes, after, reply)
+}
+
 // Lends the identifier for the current window. Refusals: 2, 1, 5.
 #[no_mangle]
 pub extern "C" fn tag_lend_identifier(bytes: &mut [u8], r: &[u8], id: &[u8]) -> u64

@@ -5,7 +5,7 @@ use mathlib.Core.List.{List, []}
 use mathlib.Core.Option.{Option, none, some}
 use lib.IntN.{ℤ}
 use Rattle.laws.specs.Bytes.{sameBytes}
-use Rattle.tag.specs.Calls.{Call, read, write, button, pairing, battery, accountKey, identifier, frame}
+use Rattle.tag.specs.Calls.{Call, read, write, button, pairing, battery, accountKey, disconnect, identifier, frame}
 use Rattle.notation.specs.Text.{ascii}
 use Rattle.notation.specs.Reading.{after, unsigned, signed, flag, bytes}
 use Rattle.events.specs.Event.{Event, asks, elapsed}
@@ -53,8 +53,9 @@ named name =
     (cond (sameBytes name (ascii "pairing")) (follows on)
     (cond (sameBytes name (ascii "battery")) (follows level)
     (cond (sameBytes name (ascii "key")) (follows keyBytes)
+    (cond (sameBytes name (ascii "disconnect")) (brings (asks disconnect))
     (cond (sameBytes name (ascii "identifier")) (follows r)
-    (cond (sameBytes name (ascii "frame")) (brings (asks frame)) breaks))))))))
+    (cond (sameBytes name (ascii "frame")) (brings (asks frame)) breaks)))))))))
 
 -- a line inside the settings or an event: the value behind its key
 unfoldable pub held : Awaited → List ℕ → Line

@@ -202,6 +202,9 @@ fn named(name: &[u8]) -> Line
     if octets::same(name, b"key") {
         return Line::Follows(Awaited::KeyBytes);
     }
+    if octets::same(name, b"disconnect") {
+        return Line::Brings(Event::Sets(Setting::Disconnect));
+    }
     if octets::same(name, b"identifier") {
         return Line::Follows(Awaited::R);
     }

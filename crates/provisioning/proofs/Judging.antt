@@ -27,7 +27,7 @@ use Rattle.unit.specs.declared.Accounts.{Accounts}
 use Rattle.unit.specs.declared.Owner.{Owner}
 use Rattle.unit.proofs.Lines.{accounts-lines, held-count}
 use Rattle.authentication.specs.Judgement.{accepts, notAuthenticated, noConsent, lastNonce, tagged, proves, answered, usedKey, signedByOwner}
-use Rattle.provisioning.specs.Provisioning.{parameters, readParameters, claimed, ownedBy, isKey, stateBits, readState, mayReplace, rekeyed, setKey, cleared, clearKey, recoverKey}
+use Rattle.provisioning.specs.Provisioning.{parameters, readParameters, claimed, ownedBy, isKey, stateBits, readState, mayReplace, awaiting, setKey, cleared, clearKey, recoverKey}
 
 -- Whether 0x02 may set the key
 module _ (u : TagUnit) (q : Request) where
@@ -129,7 +129,7 @@ module _ (u : TagUnit) (q : Request) where
   set-unproved e p = rw (e, p)
 
   pub key-set : {key used identity : List ℕ} {after : TagUnit} → signedByOwner u q ≡ some used → key ≡ used → mayReplace u q ≡ true
-      → identity ≡ decryptedKey key (q .additional) → after ≡ rekeyed identity u → setKey u q ≡ accepts after (answered key u q [])
+      → identity ≡ decryptedKey key (q .additional) → after ≡ awaiting identity u → setKey u q ≡ accepts after (answered key u q [])
   unfolding setKey
   key-set e k p d a = rw (e, p, a, d, k)
 

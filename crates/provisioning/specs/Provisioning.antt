@@ -20,7 +20,7 @@ use Rattle.unit.specs.declared.Accounts.{Accounts}
 use Rattle.unit.specs.declared.Owner.{Owner}
 use Rattle.unit.specs.WellFormed.{heldKeys, ownerKey}
 use Rattle.unit.specs.Standing.{shownIdentifier}
-use Rattle.unit.specs.Change.{fresh, withClock, withNonce, withAccounts, withOwner, withIdentity, withBattery, withPairing, withIdentifier, silenced, noIdentifier}
+use Rattle.unit.specs.Change.{fresh, withClock, withNonce, withAccounts, withOwner, withWaiting, identityKey, withBattery, withPairing, keyed, keyInForce}
 use Rattle.authentication.specs.Judgement.{Judgement, accepts, notAuthenticated, noConsent, unless, under, lastNonce, tagged, proves, answered, usedKey, signedByOwner}
 
 -- "power as one signed byte, two's complement" (negsuc n is -(n + 1))
@@ -66,16 +66,16 @@ readState u q =
     (λ key.
     accepts (withAccounts (ownedBy key (u .accounts)) u)
     (answered key u q
-    (stateBits (u .identity .held) (isKey (ownerKey (ownedBy key (u .accounts))) key) ∷ shownIdentifier u)))
+    (stateBits (keyed u) (isKey (ownerKey (ownedBy key (u .accounts))) key) ∷ shownIdentifier u)))
 
--- 0x02: "48: the last 8 bytes prove the held key. 40: none is held"
+-- 0x02: "48: the last 8 bytes prove the held key. 40: none is held"; judged by the key in force
 unfoldable pub mayReplace : TagUnit → Request → Bool
 mayReplace u q =
-    cond (eqb (q .size) provenSize) (u .identity .held && proves u (drop identityKeySize (q .additional))) (not (u .identity .held))
+    cond (eqb (q .size) provenSize) (keyed u && proves u (drop identityKeySize (q .additional))) (not (keyed u))
 
--- "become the identity key at once (house). Sound ends without notice and the identifier is dropped; protection stays (house)"
-abbrev pub rekeyed : List ℕ → TagUnit → TagUnit
-rekeyed identity u = withIdentity (record { held = true; bytes = identity }) (withIdentifier noIdentifier (silenced u))
+-- "Until then the accepted key waits"; "A second 0x02 in the same connection is still judged against the old key and replaces the waiting one"
+abbrev pub awaiting : List ℕ → TagUnit → TagUnit
+awaiting identity u = withWaiting (identityKey identity) u
 
 -- "owner key; with no owner, 0x80"; "The first 32 data bytes, two blocks decrypted with the owner key"
 unfoldable pub setKey : TagUnit → Request → Judgement
@@ -83,9 +83,9 @@ setKey u q =
     under (signedByOwner u q)
     (λ key.
     unless (mayReplace u q) notAuthenticated
-    (accepts (rekeyed (decryptedKey key (q .additional)) u) (answered key u q [])))
+    (accepts (awaiting (decryptedKey key (q .additional)) u) (answered key u q [])))
 
--- 0x03: "The unit becomes fresh, keeping settings, clock, last nonce (spent), battery and pairing (house)"
+-- 0x03: "The unit becomes fresh, keeping settings, clock, last nonce (spent), battery and pairing (house)"; so "0x03 drops both" keys
 unfoldable pub cleared : TagUnit → TagUnit
 cleared u =
     withClock (u .clock) (withNonce (u .nonce) (withBattery (u .battery) (withPairing (u .pairing) (fresh (u .settings)))))
@@ -102,6 +102,6 @@ unfoldable pub recoverKey : TagUnit → Request → Judgement
 recoverKey u q =
     under (ownerKey (u .accounts))
     (λ key.
-    unless (tagged (recoveryKey (u .identity .bytes)) (lastNonce u) q) notAuthenticated
+    unless (tagged (recoveryKey (keyInForce u)) (lastNonce u) q) notAuthenticated
     (unless (ltb 0 (u .consent) || u .pairing) noConsent
-    (accepts u (answered (recoveryKey (u .identity .bytes)) u q (encryptedKey key (u .identity .bytes))))))
+    (accepts u (answered (recoveryKey (keyInForce u)) u q (encryptedKey key (keyInForce u))))))

@@ -7,7 +7,7 @@ ghost use lib.ListN.{length};
 ghost use Rattle.sizes.specs.Sizes.{identityKeySize};
 ghost use Rattle.wire.specs.Shape.{request};
 ghost use Rattle.authentication.specs.Promises.{Ready, Judges};
-ghost use Rattle.provisioning.specs.Provisioning.{mayReplace, rekeyed, cleared as clearedUnit, setKey, clearKey, recoverKey};
+ghost use Rattle.provisioning.specs.Provisioning.{mayReplace, awaiting as awaitingUnit, cleared as clearedUnit, setKey, clearKey, recoverKey};
 use authentication::Found;
 use authentication::Verdict;
 use authentication::account;
@@ -23,7 +23,7 @@ use wire::blocks;
 use wire::shape;
 use wire::signing;
 
-// Whether 0x02 may set the key: a proof of the key held (48), or no key held (40).
+// Whether 0x02 may set the key: a proof of the key in force (48), or no key in force (40).
 fn may_replace(u: TagUnit, h: Head, additional: &[u8]) -> bool
     requires { ⌜ identityKeySize ≤ length (now additional) ⌝ }
     ensures { λ r. ⌜ r ≡ mayReplace u (request h (now (additional .entry))) ⌝ }
@@ -38,22 +38,20 @@ fn may_replace(u: TagUnit, h: Head, additional: &[u8]) -> bool
     !k.held
 }
 
-// The unit with a new identity key: silent, and without an identifier.
-fn with_key(u: TagUnit, key: [u8; IDENTITY_KEY_SIZE]) -> TagUnit
-    ensures { λ r. ⌜ r ≡ rekeyed key u ⌝ }
+// The unit with a new identity key that waits.
+fn awaiting(u: TagUnit, key: [u8; IDENTITY_KEY_SIZE]) -> TagUnit
+    ensures { λ r. ⌜ r ≡ awaitingUnit key u ⌝ }
 {
-    let mut after = change::silenced(u);
-    let i = change::no_identifier();
-    after.identifier = i;
     let k = Identity {
         held: true,
         bytes: key,
     };
-    after.identity = k;
+    let mut after = u;
+    after.waiting = k;
     after
 }
 
-// 0x02: sets the identity key.
+// 0x02: sets the identity key, which waits for the connection to end.
 pub fn set_key(u: TagUnit, h: Head, additional: &[u8]) -> Verdict
     requires { ⌜ Ready u (h .size) (now additional) × (identityKeySize ≤ length (now additional)) ⌝ }
     ensures { λ r. ⌜ Judges u (h .id) (setKey u (request h (now (additional .entry)))) r ⌝ }
@@ -67,7 +65,7 @@ pub fn set_key(u: TagUnit, h: Head, additional: &[u8]) -> Verdict
     }
     let a = u.accounts;
     let key = account::key_at(a, place);
-    let after = with_key(u, blocks::decrypted_key(key, additional));
+    let after = awaiting(u, blocks::decrypted_key(key, additional));
     answering::granted(after, account::signing_key(key), b"")
 }
 

@@ -5,7 +5,7 @@ use mathlib.Core.List.{List}
 use lib.Dec.{eqb, ltb}
 use Rattle.wire.specs.Shape.{Request, parsed, shapeLegal}
 use Rattle.unit.specs.declared.TagUnit.{TagUnit}
-use Rattle.unit.specs.Change.{spent}
+use Rattle.unit.specs.Change.{spent, keyed}
 use Rattle.unit.specs.Outcome.{Outcome}
 use Rattle.authentication.specs.Judgement.{Judgement, notAuthenticated, invalidValue, unless, concluded}
 use Rattle.provisioning.specs.Provisioning.{readParameters, readState, setKey, clearKey, recoverKey}
@@ -30,7 +30,7 @@ abbrev pub needsKey : ℕ
 needsKey = 0x03
 
 abbrev pub keyThere : TagUnit → Request → Bool
-keyThere u q = ltb (q .id) needsKey || u .identity .held
+keyThere u q = ltb (q .id) needsKey || keyed u
 
 -- "An unknown ID or any other count: 0x81. Then, in order: no live nonce, 0x80 (house: skip-authentication ringing needs one too);
 -- tag and key proofs, 0x80; values, 0x81; consent, 0x82." The request is judged on the unit with its nonce spent

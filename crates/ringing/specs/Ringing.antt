@@ -14,7 +14,7 @@ use Rattle.unit.specs.declared.Sound.{Sound}
 use Rattle.unit.specs.declared.Protection.{Protection}
 use Rattle.sizes.specs.Sizes.{highestVolume, longestRing}
 use Rattle.unit.specs.Ringable.{ringable, inside}
-use Rattle.unit.specs.Change.{withSound, silenced}
+use Rattle.unit.specs.Change.{withSound, silenced, keyInForce}
 use Rattle.authentication.specs.Judgement.{Judgement, accepts, notAuthenticated, invalidValue, unless, lastNonce, tagged, answered}
 
 -- "For 0x05 with protection and skip on, any tag passes"
@@ -63,13 +63,13 @@ heldVolume s a = cond (eqb (s .selectable) 0) 0 (askedVolume a)
 unfoldable pub rung : TagUnit → ℕ → ℕ → ℕ → Judgement
 rung u mask volume left =
     cond (eqb mask 0)
-    (accepts (silenced u) (stopNotice (u .identity .bytes) (lastNonce u) byRequest))
+    (accepts (silenced u) (stopNotice (keyInForce u) (lastNonce u) byRequest))
     (accepts (withSound (Sound.Ringing mask volume left) (lastNonce u) u)
-    (ringNotice (u .identity .bytes) (lastNonce u) started mask left))
+    (ringNotice (keyInForce u) (lastNonce u) started mask left))
 
 unfoldable pub ring : TagUnit → Request → Judgement
 ring u q =
-    unless (skips (u .protection) || tagged (ringKey (u .identity .bytes)) (lastNonce u) q) notAuthenticated
+    unless (skips (u .protection) || tagged (ringKey (keyInForce u)) (lastNonce u) q) notAuthenticated
     (unless (ringLegal (u .settings) (q .additional)) invalidValue
     (rung u (ringMask (u .settings) (q .additional)) (heldVolume (u .settings) (q .additional)) (askedTimeout (q .additional))))
 
@@ -80,5 +80,5 @@ soundState (Sound.Ringing mask volume left) = mask ∷ bigEndian 2 left
 
 unfoldable pub readSound : TagUnit → Request → Judgement
 readSound u q =
-    unless (tagged (ringKey (u .identity .bytes)) (lastNonce u) q) notAuthenticated
-    (accepts u (answered (ringKey (u .identity .bytes)) u q (soundState (u .sound))))
+    unless (tagged (ringKey (keyInForce u)) (lastNonce u) q) notAuthenticated
+    (accepts u (answered (ringKey (keyInForce u)) u q (soundState (u .sound))))

@@ -169,7 +169,7 @@ unfolding Fitting valueOf unitFields
 unit-filled b s h =
     let room : byteSize + unitSize ≤ length b = omega arith in
     all-fit unitFields
-    ((((((((((((tt, settings-filled), clock-filled), nonce-filled), accounts-filled), identity-filled), sound-filled), plain-filled nonceSize), protection-filled), number-filled tenthsSize), flag-filled), byte-filled), identifier-filled)
+    (((((((((((((tt, settings-filled), clock-filled), nonce-filled), accounts-filled), identity-filled), identity-filled), sound-filled), plain-filled nonceSize), protection-filled), number-filled tenthsSize), flag-filled), byte-filled), identifier-filled)
     b
     s
     byteSize

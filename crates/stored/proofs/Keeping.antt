@@ -11,7 +11,7 @@ use Rattle.stored.specs.Record.{unitFields}
 pub unit-parts : AllLawful unitFields
 unfolding unitFields
 unit-parts =
-    ((((((((((((tt, settings-lawful), clock-lawful), nonce-lawful), accounts-lawful), identity-lawful), sound-lawful), plain-lawful nonceSize), protection-lawful), number-lawful tenthsSize), flag-lawful), byte-lawful), identifier-lawful)
+    (((((((((((((tt, settings-lawful), clock-lawful), nonce-lawful), accounts-lawful), identity-lawful), identity-lawful), sound-lawful), plain-lawful nonceSize), protection-lawful), number-lawful tenthsSize), flag-lawful), byte-lawful), identifier-lawful)
 
 pub unit-lawful : Lawful (whole unitFields)
 unfolding unitFields again

@@ -14,11 +14,11 @@ use Rattle.record_parts.specs.Groups.{settingsSize, clockSize, noncePartSize, a
 
 -- raised by every change of the layout; never 0x00 or 0xFF, so that zeroed and erased memory are no record
 abbrev pub version : ℕ
-version = 0x01
+version = 0x02
 
 abbrev pub unitSize : ℕ
 unitSize =
-    settingsSize + clockSize + noncePartSize + accountsSize + identitySize + soundSize + nonceSize + byteSize + tenthsSize + byteSize + byteSize
+    settingsSize + clockSize + noncePartSize + accountsSize + identitySize + identitySize + soundSize + nonceSize + byteSize + tenthsSize + byteSize + byteSize
     + identifierPartSize
 
 -- the unit's parts, in order
@@ -30,6 +30,7 @@ unitFields =
     then whole nonceFields of (λ u. u .nonce)
     then whole accountsFields of (λ u. u .accounts)
     then whole identityFields of (λ u. u .identity)
+    then whole identityFields of (λ u. u .waiting)
     then whole soundFields of (λ u. u .sound)
     then plain nonceSize of (λ u. u .«ring_nonce»)
     then whole protectionFields of (λ u. u .protection)

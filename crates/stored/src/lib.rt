@@ -23,7 +23,7 @@ use unit::TagUnit;
 use unit::change;
 
 // Raised by every change of the layout; never 0x00 or 0xFF, so that zeroed and erased memory are no record.
-pub const VERSION: u8 = 0x01;
+pub const VERSION: u8 = 0x02;
 
 const VERSION_AT: usize = 0;
 
@@ -37,7 +37,9 @@ const ACCOUNTS_AT: usize = NONCE_AT + nonce::SIZE;
 
 const IDENTITY_AT: usize = ACCOUNTS_AT + accounts::SIZE;
 
-const SOUND_AT: usize = IDENTITY_AT + identity::SIZE;
+const WAITING_AT: usize = IDENTITY_AT + identity::SIZE;
+
+const SOUND_AT: usize = WAITING_AT + identity::SIZE;
 
 const RING_NONCE_AT: usize = SOUND_AT + sound::SIZE;
 
@@ -64,6 +66,7 @@ pub fn encode(bytes: &mut [u8], u: TagUnit)
     let nonce = u.nonce;
     let accounts = u.accounts;
     let identity = u.identity;
+    let waiting = u.waiting;
     let sound = u.sound;
     let ring_nonce = u.ring_nonce;
     let protection = u.protection;
@@ -74,6 +77,7 @@ pub fn encode(bytes: &mut [u8], u: TagUnit)
     nonce::put(bytes, NONCE_AT, nonce);
     accounts::put(bytes, ACCOUNTS_AT, accounts);
     identity::put(bytes, IDENTITY_AT, identity);
+    identity::put(bytes, WAITING_AT, waiting);
     sound::put(bytes, SOUND_AT, sound);
     plain::put_nonce(bytes, RING_NONCE_AT, ring_nonce);
     protection::put(bytes, PROTECTION_AT, protection);
@@ -93,6 +97,7 @@ fn fields(bytes: &[u8]) -> TagUnit
     let nonce = nonce::read(bytes, NONCE_AT);
     let accounts = accounts::read(bytes, ACCOUNTS_AT);
     let identity = identity::read(bytes, IDENTITY_AT);
+    let waiting = identity::read(bytes, WAITING_AT);
     let sound = sound::read(bytes, SOUND_AT);
     let ring_nonce = plain::nonce(bytes, RING_NONCE_AT);
     let protection = protection::read(bytes, PROTECTION_AT);
@@ -106,6 +111,7 @@ fn fields(bytes: &[u8]) -> TagUnit
         nonce,
         accounts,
         identity,
+        waiting,
         sound,
         ring_nonce,
         protection,

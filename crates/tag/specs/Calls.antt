@@ -11,7 +11,7 @@ use Rattle.unit.specs.Change.{fresh, noUnit, withPairing}
 use Rattle.unit.specs.Outcome.{Outcome, giving, refusing, formed, answering}
 use Rattle.requests.specs.Write.{written}
 use Rattle.time.specs.Time.{tenths}
-use Rattle.tag.specs.Own.{issuing, pressed, charged, keeping, lending, showing}
+use Rattle.tag.specs.Own.{issuing, pressed, charged, keeping, disconnected, lending, showing}
 
 -- A new unit: "settings .. out of range": 1; "A new unit checks only 1"
 unfoldable pub newUnit : ℤ → ℕ → ℕ → Outcome
@@ -31,6 +31,7 @@ pub data Call : Type 0 where
   pairing : (on : Bool) → Call
   battery : (level : ℕ) → Call
   accountKey : (key : List ℕ) → Call
+  disconnect : Call
   identifier : (r id : List ℕ) → Call
   frame : Call
 
@@ -42,6 +43,7 @@ own button u = pressed (u .sound) u
 own (pairing on) u = giving [] (withPairing on u)
 own (battery level) u = charged level u
 own (accountKey key) u = keeping key u
+own disconnect u = disconnected u
 own (identifier r id) u = lending r id u
 own frame u = showing u
 
@@ -53,6 +55,7 @@ lends button = true
 lends (pairing on) = false
 lends (battery level) = false
 lends (accountKey key) = false
+lends disconnect = false
 lends (identifier r id) = false
 lends frame = true
 

@@ -11,7 +11,7 @@ use Rattle.unit.specs.declared.TagUnit.{TagUnit}
 use Rattle.unit.specs.declared.Sound.{Sound}
 use Rattle.unit.specs.declared.Protection.{Protection}
 use Rattle.unit.specs.WellFormed.{heldKeys}
-use Rattle.unit.specs.Change.{silenced, withNonce, withAccounts, withNewKey, withConsent, withPairing, withBattery, withIdentifier}
+use Rattle.unit.specs.Change.{silenced, withNonce, withAccounts, withNewKey, withConsent, withPairing, withBattery, withIdentity, withWaiting, withIdentifier, noIdentity, noIdentifier, keyed, keyInForce}
 use Rattle.unit.specs.Standing.{stands}
 use Rattle.unit.specs.Outcome.{Outcome, giving, refusing}
 use Rattle.wire.specs.Signing.{version, stopNotice, byButton}
@@ -32,7 +32,7 @@ issuing nonce u =
 -- uses "the nonce of the accepted ring"
 unfoldable pub pressed : Sound → TagUnit → Outcome
 pressed Sound.Silent u = giving [] (withConsent fullConsent u)
-pressed (Sound.Ringing mask volume left) u = giving (stopNotice (u .identity .bytes) (u .«ring_nonce») byButton) (silenced u)
+pressed (Sound.Ringing mask volume left) u = giving (stopNotice (keyInForce u) (u .«ring_nonce») byButton) (silenced u)
 
 -- "1: .. battery out of range"
 unfoldable pub charged : ℕ → TagUnit → Outcome
@@ -47,11 +47,19 @@ keeping key u =
     (giving [] (withAccounts (withNewKey key (u .accounts)) u))
     (refusing 4 u)))
 
+-- Disconnect: by source document 004 the new key "takes effect right after the connection ends"; "Sound ends and the identifier is dropped at a
+-- disconnect that brings a waiting key in, no longer at the write; any other disconnect changes nothing"
+abbrev pub broughtIn : TagUnit → TagUnit
+broughtIn u = withWaiting noIdentity (withIdentity (u .waiting) (withIdentifier noIdentifier (silenced u)))
+
+unfoldable pub disconnected : TagUnit → Outcome
+disconnected u = giving [] (cond (u .waiting .held) (broughtIn u) u)
+
 -- "for a lent identifier .. 1, then 5"; it is lent for the current window
 unfoldable pub lending : List ℕ → List ℕ → TagUnit → Outcome
 lending r id u =
     cond (not (eqb (length r) identifierSize && eqb (length id) identifierSize)) (refusing 1 u)
-    (cond (u .identity .held)
+    (cond (keyed u)
     (giving [] (withIdentifier (record { held = true; r = r; id = id; window = window (u .clock .seconds) }) u))
     (refusing 5 u))
 

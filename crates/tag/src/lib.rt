@@ -25,6 +25,7 @@ use unit::well_formed;
 
 mod accounts;
 mod advertising;
+mod connection;
 mod identifier;
 mod nonce;
 mod press;
@@ -145,6 +146,17 @@ pub fn account_key(u: TagUnit, key: &[u8]) -> Step
 {
     if well_formed::well_formed(u) {
         return accounts::added(u, key);
+    }
+    end::refuse(u, Refusal::NotWellFormed)
+}
+
+// The phone has hung up: an identity key that waits comes into force, a ring ends without a notice and the lent identifier is dropped. Without one
+// nothing changes. Refusal: 2.
+pub fn disconnect(u: TagUnit) -> Step
+    ensures { λ r. ⌜ Completes (call of.disconnect 0 u) (r .unit) (r .reply) ⌝ }
+{
+    if well_formed::well_formed(u) {
+        return end::accept(connection::ended(u), 0);
     }
     end::refuse(u, Refusal::NotWellFormed)
 }

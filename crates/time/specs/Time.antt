@@ -7,7 +7,7 @@ use Rattle.laws.specs.Answer.{gives}
 use Rattle.unit.specs.declared.TagUnit.{TagUnit}
 use Rattle.unit.specs.declared.Clock.{Clock}
 use Rattle.unit.specs.declared.Sound.{Sound}
-use Rattle.unit.specs.Change.{withClock, withSound, withConsent, silenced}
+use Rattle.unit.specs.Change.{withClock, withSound, withConsent, silenced, keyInForce}
 use Rattle.unit.specs.Outcome.{Outcome, giving}
 use Rattle.wire.specs.Signing.{stopNotice, timedOut}
 
@@ -36,7 +36,7 @@ oneTenth u = withClock (clockOn (u .clock)) (withConsent (u .consent - 1) (ringO
 
 -- the notice of that tenth, where a ring ends in it, with "the nonce of the accepted ring"
 unfoldable pub timeoutNotice : TagUnit → List ℕ
-timeoutNotice u = stopNotice (u .identity .bytes) (u .«ring_nonce») timedOut
+timeoutNotice u = stopNotice (keyInForce u) (u .«ring_nonce») timedOut
 
 -- "A call takes any 32-bit number of tenths, equals that many single tenths, and reports the tenth, counted from the call's start, at
 -- which a ring ended, or 0"

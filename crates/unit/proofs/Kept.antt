@@ -13,8 +13,8 @@ use borrow.Author.Tests.{lt-ltb, eq-eqb}
 use Rattle.laws.specs.Bytes.{allZero}
 use Rattle.laws.proofs.Flags.{and-right, both, or-left, or-right, or-rest, true-or-false}
 use Rattle.laws.proofs.Same.{replicate-zeros}
-use Rattle.unit.specs.Change.{fresh, noIdentifier, withClock, withNonce, withAccounts, withOwner, withNewKey, withIdentity, withProtection, withConsent, withPairing, withBattery, withIdentifier, withSound, silenced, spent}
-use Rattle.sizes.specs.Sizes.{accountKeySize, mostKeys, nonceSize, fullConsent, highestBattery, windowLength, window}
+use Rattle.unit.specs.Change.{fresh, noIdentity, identityKey, noIdentifier, withClock, withNonce, withAccounts, withOwner, withNewKey, withIdentity, withWaiting, withProtection, withConsent, withPairing, withBattery, withIdentifier, withSound, silenced, spent}
+use Rattle.sizes.specs.Sizes.{accountKeySize, identityKeySize, mostKeys, nonceSize, fullConsent, highestBattery, windowLength, window}
 use Rattle.tables.specs.Rows.{rows, among, distinct}
 use Rattle.unit.specs.WellFormed.{settingsLegal, heldKeys, ownerLegal, owned, identityLegal, nonceLegal, soundLegal, protectionLegal, identifierLegal, wellFormed}
 use Rattle.unit.specs.declared.TagUnit.{TagUnit}
@@ -39,6 +39,7 @@ fresh-formed s h =
       accounts = record { room = refl; count = search needs; different = refl; spare = refl };
       owner = refl;
       identity = refl;
+      waiting = refl;
       nonce = refl;
       sound = refl;
       protection = refl;
@@ -126,6 +127,7 @@ module _ (u : TagUnit) (w : wellFormed u ≡ true) where
       record { room = l .accounts .room; count = l .accounts .count; different = l .accounts .different; spare = l .accounts .spare } in
       let owner = lt-ltb place (u .accounts .count) h in
       let identity = placed-legal place (u .identity) (u .accounts .owner) (l .identity) in
+      let waiting = placed-legal place (u .waiting) (u .accounts .owner) (l .waiting) in
       formed (withAccounts (withOwner (Owner.Place place) (u .accounts)) u) (search needs)
 
   pub identity-kept : (bytes : List ℕ) → owned (u .accounts .owner) ≡ true → wellFormed (withIdentity (record { held = true; bytes = bytes }) u) ≡ true
@@ -137,6 +139,21 @@ module _ (u : TagUnit) (w : wellFormed u ≡ true) where
       let protection = protection-keyed (u .protection) (u .identity .held) (l .protection) in
       let identifier = identifier-keyed (u .identifier) (u .identity .held) (l .identifier) in
       formed (withIdentity (record { held = true; bytes = bytes }) u) (search needs)
+
+  pub waiting-kept : (bytes : List ℕ) → owned (u .accounts .owner) ≡ true → wellFormed (withWaiting (identityKey bytes) u) ≡ true
+  unfolding identityLegal
+  waiting-kept bytes h =
+      let l = lines u w in
+      let waiting = or-left false h in
+      formed (withWaiting (identityKey bytes) u) (search needs)
+
+  -- no key waits
+  pub unawaited-kept : wellFormed (withWaiting noIdentity u) ≡ true
+  unfolding identityLegal
+  unawaited-kept =
+      let l = lines u w in
+      let waiting : identityLegal noIdentity (u .accounts .owner) ≡ true = replicate-zeros identityKeySize in
+      formed (withWaiting noIdentity u) (search needs)
 
   pub silenced-kept : wellFormed (silenced u) ≡ true
   unfolding soundLegal

@@ -39,6 +39,7 @@ pub record Lines (u : TagUnit) : Type 0 where
   pub accounts : AccountsLines (u .accounts)
   pub owner : ownerLegal (u .accounts) ≡ true
   pub identity : identityLegal (u .identity) (u .accounts .owner) ≡ true
+  pub waiting : identityLegal (u .waiting) (u .accounts .owner) ≡ true
   pub nonce : nonceLegal (u .nonce) ≡ true
   pub sound : soundLegal (u .sound) (u .«ring_nonce») (u .settings) (u .identity .held) ≡ true
   pub protection : protectionLegal (u .protection) (u .identity .held) ≡ true
@@ -83,7 +84,8 @@ lines u h =
     let from-accounts = and-right (leb (u .clock .tenth) 9) _ from-tenth in
     let from-owner = and-right (accountsLegal (u .accounts)) _ from-accounts in
     let from-identity = and-right (ownerLegal (u .accounts)) _ from-owner in
-    let from-nonce = and-right (identityLegal (u .identity) (u .accounts .owner)) _ from-identity in
+    let from-waiting = and-right (identityLegal (u .identity) (u .accounts .owner)) _ from-identity in
+    let from-nonce = and-right (identityLegal (u .waiting) (u .accounts .owner)) _ from-waiting in
     let from-sound = and-right (nonceLegal (u .nonce)) _ from-nonce in
     let from-protection = and-right (soundLegal (u .sound) (u .«ring_nonce») (u .settings) (u .identity .held)) _ from-sound in
     let from-consent = and-right (protectionLegal (u .protection) (u .identity .held)) _ from-protection in
@@ -94,6 +96,7 @@ lines u h =
       accounts = accounts-lines _ (and-left _ _ from-accounts);
       owner = and-left _ _ from-owner;
       identity = and-left _ _ from-identity;
+      waiting = and-left _ _ from-waiting;
       nonce = and-left _ _ from-nonce;
       sound = and-left _ _ from-sound;
       protection = and-left _ _ from-protection;
@@ -110,12 +113,13 @@ formed u l =
     (both (accounts-legal _ (l .accounts))
     (both (l .owner)
     (both (l .identity)
+    (both (l .waiting)
     (both (l .nonce)
     (both (l .sound)
     (both (l .protection)
     (both (le-leb _ _ (l .consent))
     (both (le-leb _ _ (l .battery))
-    (l .identifier))))))))))
+    (l .identifier)))))))))))
 
 -- Volume 0 where it is not selectable, as a test and as a fact
 fixed-test : (selectable volume : ℕ) → (selectable ≡ 0 → volume ≡ 0) → not (eqb selectable 0) || eqb volume 0 ≡ true
@@ -204,6 +208,10 @@ module _ {u : TagUnit} (l : Lines u) where
   pub identity-owned : u .identity .held ≡ true → owned (u .accounts .owner) ≡ true
   unfolding identityLegal
   identity-owned e = sym (or-false _) ∙ (rw e at (l .identity))
+
+  pub waiting-owned : u .waiting .held ≡ true → owned (u .accounts .owner) ≡ true
+  unfolding identityLegal
+  waiting-owned e = sym (or-false _) ∙ (rw e at (l .waiting))
 
   pub ring-held : {mask volume left : ℕ} → u .sound ≡ Sound.Ringing mask volume left
       → RingLines mask volume left (u .settings) (u .identity .held)

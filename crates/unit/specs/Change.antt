@@ -1,6 +1,6 @@
 -- The unit with one thing changed, and the one form of each absent thing.
 use Prim.Native.Nat.{ℕ, _+_, _*_}
-use mathlib.Core.Bool.{Bool, false}
+use mathlib.Core.Bool.{Bool, true, false}
 use mathlib.Core.List.{List}
 use lib.ListN.{replicate}
 use lib.IntN.{pos}
@@ -27,6 +27,10 @@ noAccounts = record { count = 0; owner = Owner.Nobody; keys = replicate keysRoom
 abbrev pub noIdentity : Identity
 noIdentity = record { held = false; bytes = replicate identityKeySize 0 }
 
+-- an identity key that there is
+abbrev pub identityKey : List ℕ → Identity
+identityKey key = record { held = true; bytes = key }
+
 abbrev pub noIdentifier : Identifier
 noIdentifier = record { held = false; r = replicate identifierSize 0; id = replicate identifierSize 0; window = 0 }
 
@@ -34,7 +38,7 @@ noIdentifier = record { held = false; r = replicate identifierSize 0; id = repli
 abbrev pub noRingNonce : List ℕ
 noRingNonce = replicate nonceSize 0
 
--- Fresh: no keys, nonce, sound, protection, consent, pairing or identifier; battery 0; the clock starts at 0
+-- Fresh: no keys, nonce, sound, protection, consent, pairing or identifier; battery 0; the clock starts at 0. No key waits
 abbrev pub fresh : Settings → TagUnit
 fresh s =
     record {
@@ -43,6 +47,7 @@ fresh s =
       nonce = noNonce;
       accounts = noAccounts;
       identity = noIdentity;
+      waiting = noIdentity;
       sound = Sound.Silent;
       «ring_nonce» = noRingNonce;
       protection = Protection.Off;
@@ -53,14 +58,15 @@ fresh s =
     }
 
 -- a unit of its parts
-abbrev pub unitOf : Settings → Clock → Nonce → Accounts → Identity → Sound → List ℕ → Protection → ℕ → Bool → ℕ → Identifier → TagUnit
-unitOf s c n a k v m p t g b i =
+abbrev pub unitOf : Settings → Clock → Nonce → Accounts → Identity → Identity → Sound → List ℕ → Protection → ℕ → Bool → ℕ → Identifier → TagUnit
+unitOf s c n a k w v m p t g b i =
     record {
       settings = s;
       clock = c;
       nonce = n;
       accounts = a;
       identity = k;
+      waiting = w;
       sound = v;
       «ring_nonce» = m;
       protection = p;
@@ -73,39 +79,43 @@ unitOf s c n a k v m p t g b i =
 -- the unit with one part changed
 abbrev pub withClock : Clock → TagUnit → TagUnit
 withClock c u =
-    unitOf (u .settings) c (u .nonce) (u .accounts) (u .identity) (u .sound) (u .«ring_nonce») (u .protection) (u .consent) (u .pairing) (u .battery) (u .identifier)
+    unitOf (u .settings) c (u .nonce) (u .accounts) (u .identity) (u .waiting) (u .sound) (u .«ring_nonce») (u .protection) (u .consent) (u .pairing) (u .battery) (u .identifier)
 
 abbrev pub withNonce : Nonce → TagUnit → TagUnit
 withNonce n u =
-    unitOf (u .settings) (u .clock) n (u .accounts) (u .identity) (u .sound) (u .«ring_nonce») (u .protection) (u .consent) (u .pairing) (u .battery) (u .identifier)
+    unitOf (u .settings) (u .clock) n (u .accounts) (u .identity) (u .waiting) (u .sound) (u .«ring_nonce») (u .protection) (u .consent) (u .pairing) (u .battery) (u .identifier)
 
 abbrev pub withAccounts : Accounts → TagUnit → TagUnit
 withAccounts a u =
-    unitOf (u .settings) (u .clock) (u .nonce) a (u .identity) (u .sound) (u .«ring_nonce») (u .protection) (u .consent) (u .pairing) (u .battery) (u .identifier)
+    unitOf (u .settings) (u .clock) (u .nonce) a (u .identity) (u .waiting) (u .sound) (u .«ring_nonce») (u .protection) (u .consent) (u .pairing) (u .battery) (u .identifier)
 
 abbrev pub withIdentity : Identity → TagUnit → TagUnit
 withIdentity k u =
-    unitOf (u .settings) (u .clock) (u .nonce) (u .accounts) k (u .sound) (u .«ring_nonce») (u .protection) (u .consent) (u .pairing) (u .battery) (u .identifier)
+    unitOf (u .settings) (u .clock) (u .nonce) (u .accounts) k (u .waiting) (u .sound) (u .«ring_nonce») (u .protection) (u .consent) (u .pairing) (u .battery) (u .identifier)
+
+abbrev pub withWaiting : Identity → TagUnit → TagUnit
+withWaiting w u =
+    unitOf (u .settings) (u .clock) (u .nonce) (u .accounts) (u .identity) w (u .sound) (u .«ring_nonce») (u .protection) (u .consent) (u .pairing) (u .battery) (u .identifier)
 
 abbrev pub withProtection : Protection → TagUnit → TagUnit
 withProtection p u =
-    unitOf (u .settings) (u .clock) (u .nonce) (u .accounts) (u .identity) (u .sound) (u .«ring_nonce») p (u .consent) (u .pairing) (u .battery) (u .identifier)
+    unitOf (u .settings) (u .clock) (u .nonce) (u .accounts) (u .identity) (u .waiting) (u .sound) (u .«ring_nonce») p (u .consent) (u .pairing) (u .battery) (u .identifier)
 
 abbrev pub withConsent : ℕ → TagUnit → TagUnit
 withConsent t u =
-    unitOf (u .settings) (u .clock) (u .nonce) (u .accounts) (u .identity) (u .sound) (u .«ring_nonce») (u .protection) t (u .pairing) (u .battery) (u .identifier)
+    unitOf (u .settings) (u .clock) (u .nonce) (u .accounts) (u .identity) (u .waiting) (u .sound) (u .«ring_nonce») (u .protection) t (u .pairing) (u .battery) (u .identifier)
 
 abbrev pub withPairing : Bool → TagUnit → TagUnit
 withPairing on u =
-    unitOf (u .settings) (u .clock) (u .nonce) (u .accounts) (u .identity) (u .sound) (u .«ring_nonce») (u .protection) (u .consent) on (u .battery) (u .identifier)
+    unitOf (u .settings) (u .clock) (u .nonce) (u .accounts) (u .identity) (u .waiting) (u .sound) (u .«ring_nonce») (u .protection) (u .consent) on (u .battery) (u .identifier)
 
 abbrev pub withBattery : ℕ → TagUnit → TagUnit
 withBattery level u =
-    unitOf (u .settings) (u .clock) (u .nonce) (u .accounts) (u .identity) (u .sound) (u .«ring_nonce») (u .protection) (u .consent) (u .pairing) level (u .identifier)
+    unitOf (u .settings) (u .clock) (u .nonce) (u .accounts) (u .identity) (u .waiting) (u .sound) (u .«ring_nonce») (u .protection) (u .consent) (u .pairing) level (u .identifier)
 
 abbrev pub withIdentifier : Identifier → TagUnit → TagUnit
 withIdentifier i u =
-    unitOf (u .settings) (u .clock) (u .nonce) (u .accounts) (u .identity) (u .sound) (u .«ring_nonce») (u .protection) (u .consent) (u .pairing) (u .battery) i
+    unitOf (u .settings) (u .clock) (u .nonce) (u .accounts) (u .identity) (u .waiting) (u .sound) (u .«ring_nonce») (u .protection) (u .consent) (u .pairing) (u .battery) i
 
 -- the accounts with another owner
 abbrev pub withOwner : Owner → Accounts → Accounts
@@ -118,11 +128,19 @@ withNewKey key a = record { count = a .count + 1; owner = a .owner; keys = paste
 -- a sound, with the nonce of the accepted ring beside it
 abbrev pub withSound : Sound → List ℕ → TagUnit → TagUnit
 withSound v m u =
-    unitOf (u .settings) (u .clock) (u .nonce) (u .accounts) (u .identity) v m (u .protection) (u .consent) (u .pairing) (u .battery) (u .identifier)
+    unitOf (u .settings) (u .clock) (u .nonce) (u .accounts) (u .identity) (u .waiting) v m (u .protection) (u .consent) (u .pairing) (u .battery) (u .identifier)
 
 -- Every way to silence goes through here: no sound, and no nonce beside it
 abbrev pub silenced : TagUnit → TagUnit
 silenced u = withSound Sound.Silent noRingNonce u
+
+-- "Until then the accepted key waits: all tags, key proofs, frames and 0x01 answers use the old key, or none on a new unit": whether there is an
+-- identity key in force, and its bytes. A key that waits is neither
+abbrev pub keyed : TagUnit → Bool
+keyed u = u .identity .held
+
+abbrev pub keyInForce : TagUnit → List ℕ
+keyInForce u = u .identity .bytes
 
 -- "Spent" is the paper's word for a nonce that can authenticate no further write: its bytes stay, and it is not live
 abbrev pub spent : TagUnit → TagUnit

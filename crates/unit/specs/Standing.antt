@@ -5,6 +5,7 @@ use mathlib.Core.Bool.{Bool, cond, _&&_}
 use mathlib.Core.List.{List, []}
 use lib.Dec.{eqb}
 use Rattle.sizes.specs.Sizes.{window}
+use Rattle.unit.specs.Change.{keyed}
 use Rattle.unit.specs.declared.TagUnit.{TagUnit}
 use Rattle.unit.specs.declared.Identifier.{Identifier}
 
@@ -13,7 +14,7 @@ abbrev pub standsAt : Bool → Identifier → ℕ → Bool
 standsAt keyed i seconds = keyed && (i .held && eqb (i .window) (window seconds))
 
 abbrev pub stands : TagUnit → Bool
-stands u = standsAt (u .identity .held) (u .identifier) (u .clock .seconds)
+stands u = standsAt (keyed u) (u .identifier) (u .clock .seconds)
 
 -- "the identifier if one stands for the current window, else nothing"
 unfoldable pub shownIdentifier : TagUnit → List ℕ

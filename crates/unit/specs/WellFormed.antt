@@ -10,6 +10,7 @@ use Rattle.laws.specs.Bytes.{allZero}
 use Rattle.sizes.specs.Sizes.{accountKeySize, mostKeys, keysRoom, mostComponents, highestVolume, highestBattery, longestRing, fullConsent, windowLength}
 use Rattle.tables.specs.Rows.{rows, distinct}
 use Rattle.unit.specs.Ringable.{inside}
+use Rattle.unit.specs.Change.{keyed}
 use Rattle.unit.specs.declared.TagUnit.{TagUnit}
 use Rattle.unit.specs.declared.Settings.{Settings}
 use Rattle.unit.specs.declared.Nonce.{Nonce}
@@ -58,7 +59,7 @@ rowOf (Owner.Place p) keys = some (getD keys p [])
 unfoldable pub ownerKey : Accounts → Option (List ℕ)
 ownerKey a = rowOf (a .owner) (heldKeys a)
 
--- perhaps a 32-byte identity key (then there is an owner)
+-- perhaps a 32-byte identity key (then there is an owner); "A waiting key without an owner isn't well formed"
 unfoldable pub identityLegal : Identity → Owner → Bool
 identityLegal k o = (k .held && owned o) || (not (k .held) && allZero (k .bytes))
 
@@ -96,8 +97,9 @@ wellFormed u =
     && (accountsLegal (u .accounts)
     && (ownerLegal (u .accounts)
     && (identityLegal (u .identity) (u .accounts .owner)
+    && (identityLegal (u .waiting) (u .accounts .owner)
     && (nonceLegal (u .nonce)
-    && (soundLegal (u .sound) (u .«ring_nonce») (u .settings) (u .identity .held)
-    && (protectionLegal (u .protection) (u .identity .held)
+    && (soundLegal (u .sound) (u .«ring_nonce») (u .settings) (keyed u)
+    && (protectionLegal (u .protection) (keyed u)
     && (leb (u .consent) fullConsent
-    && (leb (u .battery) highestBattery && identifierLegal (u .identifier) (u .identity .held))))))))))
+    && (leb (u .battery) highestBattery && identifierLegal (u .identifier) (keyed u)))))))))))

@@ -1,6 +1,6 @@
 // A unit with one thing changed. A field that is an enum is not stored to: the record is made anew.
 ghost use mathlib.Core.Path.{_≡_};
-ghost use Rattle.unit.specs.Change.{fresh as freshUnit, noUnit, noIdentifier, withOwner, withProtection, withSound, silenced as silencedUnit, spent as spentUnit};
+ghost use Rattle.unit.specs.Change.{fresh as freshUnit, noUnit, noIdentity, noIdentifier, withOwner, withProtection, withSound, silenced as silencedUnit, spent as spentUnit};
 use crate::Accounts;
 use crate::Clock;
 use crate::Identifier;
@@ -39,10 +39,8 @@ pub fn fresh(s: Settings) -> TagUnit
             owner: Owner::Nobody,
             keys: [0; KEYS_ROOM],
         },
-        identity: Identity {
-            held: false,
-            bytes: [0; IDENTITY_KEY_SIZE],
-        },
+        identity: no_identity(),
+        waiting: no_identity(),
         sound: Sound::Silent,
         ring_nonce: [0; NONCE_SIZE],
         protection: Protection::Off,
@@ -50,6 +48,16 @@ pub fn fresh(s: Settings) -> TagUnit
         pairing: false,
         battery: 0,
         identifier: no_identifier(),
+    }
+}
+
+// No identity key: zeros in its room.
+pub fn no_identity() -> Identity
+    ensures { λ r. ⌜ r ≡ noIdentity ⌝ }
+{
+    Identity {
+        held: false,
+        bytes: [0; IDENTITY_KEY_SIZE],
     }
 }
 
@@ -105,6 +113,7 @@ fn rebuilt(
     let nonce = u.nonce;
     let accounts = u.accounts;
     let identity = u.identity;
+    let waiting = u.waiting;
     let identifier = u.identifier;
     TagUnit {
         settings,
@@ -112,6 +121,7 @@ fn rebuilt(
         nonce,
         accounts,
         identity,
+        waiting,
         sound,
         ring_nonce,
         protection,

@@ -45,7 +45,7 @@ pub struct Accounts {
     pub keys: [u8; KEYS_ROOM],
 }
 
-// The identity key (ephemeral identity key), if one is held.
+// An identity key (ephemeral identity key), if there is one.
 pub struct Identity {
     pub held: bool,
     pub bytes: [u8; IDENTITY_KEY_SIZE],
@@ -76,7 +76,10 @@ pub struct TagUnit {
     pub clock: Clock,
     pub nonce: Nonce,
     pub accounts: Accounts,
+    // The identity key in force.
     pub identity: Identity,
+    // The identity key that waits for the connection to end.
+    pub waiting: Identity,
     pub sound: Sound,
     // The nonce of the accepted ring, zero while silent.
     pub ring_nonce: [u8; NONCE_SIZE],

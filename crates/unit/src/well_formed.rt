@@ -86,6 +86,16 @@ fn identity_legal(k: Identity, owner: Owner) -> bool
     octets::all_zero(&key)
 }
 
+// The key in force and the one that waits.
+fn identities_legal(identity: Identity, waiting: Identity, owner: Owner) -> bool
+    ensures { λ r. ⌜ r ≡ (identityLegal identity owner && identityLegal waiting owner) ⌝ }
+{
+    if identity_legal(identity, owner) {
+        return identity_legal(waiting, owner);
+    }
+    false
+}
+
 fn nonce_legal(n: Nonce) -> bool
     ensures { λ r. ⌜ r ≡ nonceLegal n ⌝ }
 {
@@ -198,7 +208,8 @@ pub fn well_formed(u: TagUnit) -> bool
     }
     let identity = u.identity;
     let owner = accounts.owner;
-    if !identity_legal(identity, owner) {
+    let waiting = u.waiting;
+    if !identities_legal(identity, waiting, owner) {
         return false;
     }
     let nonce = u.nonce;

@@ -75,8 +75,10 @@ fn key_proof_without_a_key() {
         assert_eq!(exchange(&mut copy, nonce, &OWNER_KEY, 0x02, &data), Err(0x80));
         assert!(!copy.has_identity);
     }
-    // Without a proof it passes, and after that only with one.
+    // Without a proof it passes, and after the disconnect only with one.
     assert!(exchange(&mut unit, nonce, &OWNER_KEY, 0x02, &[0x33; 32]).is_ok());
+    assert!(!unit.has_identity && unit.has_waiting);
+    tag::disconnect(&mut unit).unwrap();
     assert!(unit.has_identity);
     assert_eq!(exchange(&mut unit, [2; 8], &OWNER_KEY, 0x02, &[0x33; 32]), Err(0x80));
     let mut data = vec![0x44; 32];

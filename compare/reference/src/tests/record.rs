@@ -35,6 +35,7 @@ fn broken(change: impl Fn(&mut Unit), of: &Unit) {
     assert_eq!(tag::elapsed(&mut unit, u32::MAX, &mut answer), Err(2));
     assert_eq!(tag::frame(&mut unit, &mut answer), Err(2));
     assert_eq!(tag::pairing(&mut unit, true), Err(2));
+    assert_eq!(tag::disconnect(&mut unit), Err(2));
     assert_eq!(tag::battery(&mut unit, 9), Err(2));
     assert_eq!(tag::account_key(&mut unit, &[]), Err(2));
     assert_eq!(tag::lent_identifier(&mut unit, &[], &[]), Err(2));
@@ -102,6 +103,10 @@ fn keys_and_owner() {
     broken(|u| u.has_identity = true, &fresh);
     broken(|u| u.identity[31] = 1, &fresh);
     broken(|u| u.key_count = 2, &fresh);
+    broken(|u| u.has_waiting = true, &fresh);
+    broken(|u| u.waiting[31] = 1, &fresh);
+    right(|u| { u.key_count = 1; u.has_owner = true; u.has_waiting = true }, &fresh);
+    right(|u| { u.has_waiting = true; u.waiting = u.identity }, &unit);
 }
 
 #[test]
@@ -158,4 +163,29 @@ fn the_rest() {
     right(|u| u.window = 0, &unit);
     right(|u| u.window = 0xffff_fc00, &unit);
     right(|u| { u.r = [0; 20]; u.identifier = [0; 20] }, &unit);
+}
+
+/// The record's size, and that its bytes mean the unit that they were made from.
+#[test]
+fn bytes_and_back() {
+    use crate::record::{decode, encode, place, SIZE};
+    for unit in [tag::new_unit(0, 0, 0).unwrap(), tag::new_unit(-100, 3, 1).unwrap(), full()] {
+        assert_eq!(encode(&unit).len(), SIZE);
+        assert_eq!(decode(&encode(&unit)), Some(unit));
+    }
+    assert_eq!(place("nonce-bytes"), 14);
+    assert_eq!(place("identifier-window") + 4, SIZE);
+}
+
+/// The table's records are broken or right as they are named, and each has a name of its own.
+#[test]
+fn samples() {
+    use crate::record::decode;
+    let samples = crate::damage::samples();
+    let names: std::collections::BTreeSet<_> = samples.iter().map(|s| &s.name).collect();
+    assert_eq!(names.len(), samples.len());
+    for sample in samples {
+        assert!(sample.base.well_formed());
+        assert_eq!(decode(&sample.bytes).is_none_or(|unit| !unit.well_formed()), sample.broken, "{}", sample.name);
+    }
 }

@@ -111,6 +111,8 @@ fn only_0x01_makes_an_owner() {
     assert_eq!(unit.owner, 1);
     assert_eq!(exchange(&mut unit, [5; 8], &OTHER_KEY, 0x02, &[0; 32]), Err(0x80));
     assert!(exchange(&mut unit, [6; 8], &OWNER_KEY, 0x02, &[0; 32]).is_ok());
+    assert_eq!(exchange(&mut unit, [9; 8], &OWNER_KEY, 0x01, &[]).unwrap()[10..], [0x02]);
+    tag::disconnect(&mut unit).unwrap();
     assert_eq!(unit.identity[..16], aes128_decrypt(&OWNER_KEY, &[0; 16]));
     assert_eq!(unit.identity[16..], aes128_decrypt(&OWNER_KEY, &[0; 16]));
     assert_eq!(exchange(&mut unit, [7; 8], &OTHER_KEY, 0x01, &[]).unwrap()[10..], [0x01]);
@@ -133,8 +135,17 @@ fn new_identity_key_and_what_stays() {
     let mut expected = unit.clone();
     let answer = exchange(&mut unit, [3; 8], &OWNER_KEY, 0x02, &data).unwrap();
     assert_eq!(answer, tag::make_answer(&OWNER_KEY, &[3; 8], 0x02, &[]));
-    // The same key again: sound ends and the identifier is dropped all the same.
+    // The write only sets the waiting key.
     expected.nonce = [3; 8];
+    expected.has_waiting = true;
+    expected.waiting = IDENTITY;
+    assert_eq!(unit, expected);
+    // The same key again: at the disconnect sound ends and the identifier is dropped all the same.
+    unit.live = true;
+    tag::disconnect(&mut unit).unwrap();
+    expected.live = true;
+    expected.has_waiting = false;
+    expected.waiting = [0; 32];
     expected.sound = Sound::Silent;
     expected.ring_nonce = [0; 8];
     expected.has_identifier = false;
@@ -142,11 +153,57 @@ fn new_identity_key_and_what_stays() {
     expected.identifier = [0; 20];
     assert_eq!(unit, expected);
     assert_eq!(tag::frame(&mut unit, &mut [0; 42]), Err(5));
+    // Any other disconnect changes nothing.
+    tag::disconnect(&mut unit).unwrap();
+    assert_eq!(unit, expected);
+}
+
+#[test]
+fn a_key_that_waits() {
+    let mut unit = provisioned(3, 1);
+    let offer = |unit: &mut Unit, n: u8, data: u8, of: &[u8; 32]| {
+        let mut additional = vec![data; 32];
+        additional.extend_from_slice(&proof(of, &[n; 8]));
+        exchange(unit, [n; 8], &OWNER_KEY, 0x02, &additional)
+    };
+    offer(&mut unit, 1, 0x33, &IDENTITY).unwrap();
+    let first = unit.waiting;
+    // A second 0x02 is judged against the old key; only an accepted one replaces what waits.
+    assert_eq!(offer(&mut unit, 2, 0x44, &first), Err(0x80));
+    assert_eq!(unit.waiting, first);
+    offer(&mut unit, 3, 0x44, &IDENTITY).unwrap();
+    let second = unit.waiting;
+    assert_ne!(second, first);
+    // Tags and frames are those of the old key, 0x03 drops both.
+    assert_eq!(exchange(&mut unit, [4; 8], &sub_key(&second, 2), 0x06, &[]), Err(0x80));
+    assert!(exchange(&mut unit, [5; 8], &sub_key(&IDENTITY, 2), 0x06, &[]).is_ok());
+    let mut cleared = unit.clone();
+    assert_eq!(exchange(&mut cleared, [6; 8], &OWNER_KEY, 0x03, &proof(&second, &[6; 8])), Err(0x80));
+    assert!(exchange(&mut cleared, [7; 8], &OWNER_KEY, 0x03, &proof(&IDENTITY, &[7; 8])).is_ok());
+    assert!(!cleared.has_identity && !cleared.has_waiting && cleared.waiting == [0; 32]);
+    tag::disconnect(&mut unit).unwrap();
+    assert_eq!(unit.identity, second);
+    assert!(exchange(&mut unit, [8; 8], &sub_key(&second, 2), 0x06, &[]).is_ok());
+    // With a waiting key alone there is none in force.
+    let mut unit = provisioned(3, 1);
+    unit.has_identity = false;
+    unit.identity = [0; 32];
+    exchange(&mut unit, [1; 8], &OWNER_KEY, 0x02, &[0x55; 32]).unwrap();
+    let waiting = unit.waiting;
+    assert_eq!(offer(&mut unit, 2, 0x66, &waiting), Err(0x80));
+    assert_eq!(tag::lent_identifier(&mut unit, &[0; 20], &[0; 20]), Err(5));
+    assert_eq!(tag::frame(&mut unit, &mut [0; 42]), Err(5));
+    assert_eq!(exchange(&mut unit, [3; 8], &OWNER_KEY, 0x03, &proof(&waiting, &[3; 8])), Err(0x80));
+    assert_eq!(unit.waiting, waiting);
+    exchange(&mut unit, [4; 8], &OWNER_KEY, 0x02, &[0x77; 32]).unwrap();
+    assert_ne!(unit.waiting, waiting);
 }
 
 #[test]
 fn clearing_and_what_remains() {
     let mut unit = provisioned(3, 1);
+    unit.has_waiting = true;
+    unit.waiting = [7; 32];
     unit.seconds = 5_000;
     unit.tenth = 7;
     unit.consent = 77;

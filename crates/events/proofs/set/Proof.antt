@@ -59,6 +59,18 @@ slice-aggregate-completed-4 c = search needs
 completed-requires-4 : tie.Need-completed-requires-4
 completed-requires-4 c κs = search needs
 
+enum-told-4 : tie.Need-enum-told-4
+enum-told-4 c = search needs
+
+disconnect-requires : tie.Need-disconnect-requires
+disconnect-requires c κs = search needs
+
+slice-aggregate-completed-5 : tie.Need-slice-aggregate-completed-5
+slice-aggregate-completed-5 c = search needs
+
+completed-requires-5 : tie.Need-completed-requires-5
+completed-requires-5 c κs = search needs
+
 same-length : tie.Need-same-length
 same-length c = search needs
 
@@ -99,6 +111,16 @@ returns-4 c =
     rw (c .before .before .before .before .before .before .enum-told3 .given .1)
     (performs-completed (asks (tag.identifier (known .r .now) (known .bytes .now))) (known .u) (ascii "answer=identifier\n") (omega arith) (λ o. refl) (call-quiet (tag.identifier (known .r .now) (known .bytes .now)) answerRoom (known .u) refl) (c .before .before .before .before .before .lend-identifier .ensures) (c .before .before .completed4 .ensures))
 
+same-length-5 : tie.Need-same-length-5
+same-length-5 c = search needs
+
+returns-5 : tie.Need-returns-5
+unfolding performed successText tag.call tag.own tag.guarded
+returns-5 c =
+    let known = c .before .before .before .before .before .before .before .before .before .before .before .args in
+    rw (c .before .before .before .before .before .before .enum-told4 .given .1)
+    (performs-completed (asks tag.disconnect) (known .u) (ascii "answer=disconnect\n") (omega arith) (λ o. refl) (call-quiet tag.disconnect answerRoom (known .u) refl) (c .before .before .before .before .before .disconnect .ensures) (c .before .before .completed5 .ensures))
+
 pub set-spec : {M : Type 1} → statement M
 set-spec =
     tie.close
@@ -119,6 +141,10 @@ set-spec =
     lend-identifier-requires
     slice-aggregate-completed-4
     completed-requires-4
+    enum-told-4
+    disconnect-requires
+    slice-aggregate-completed-5
+    completed-requires-5
     same-length
     returns
     same-length-2
@@ -126,4 +152,6 @@ set-spec =
     same-length-3
     returns-3
     same-length-4
-    returns-4)
+    returns-4
+    same-length-5
+    returns-5)

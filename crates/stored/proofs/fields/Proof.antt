@@ -23,11 +23,14 @@ read-requires-5 c κs = search needs
 read-requires-6 : tie.Need-read-requires-6
 read-requires-6 c κs = search needs
 
+read-requires-7 : tie.Need-read-requires-7
+read-requires-7 c κs = search needs
+
 nonce-requires : tie.Need-nonce-requires
 nonce-requires c κs = search needs
 
-read-requires-7 : tie.Need-read-requires-7
-read-requires-7 c κs = search needs
+read-requires-8 : tie.Need-read-requires-8
+read-requires-8 c κs = search needs
 
 tenths-requires : tie.Need-tenths-requires
 tenths-requires c κs = search needs
@@ -38,25 +41,26 @@ flag-requires c κs = search needs
 shared-slice-read-battery : tie.Need-shared-slice-read-battery
 shared-slice-read-battery c = search needs
 
-read-requires-8 : tie.Need-read-requires-8
-read-requires-8 c κs = search needs
+read-requires-9 : tie.Need-read-requires-9
+read-requires-9 c κs = search needs
 
 returns : tie.Need-returns
 unfolding valueOf unitFields
 returns c =
-    let read8-at = c in
-    let flag-at = read8-at .before .before in
+    let read9-at = c in
+    let flag-at = read9-at .before .before in
     let tenths-at = flag-at .before in
-    let read7-at = tenths-at .before in
-    let nonce-at = read7-at .before in
-    let read6-at = nonce-at .before in
+    let read8-at = tenths-at .before in
+    let nonce-at = read8-at .before in
+    let read7-at = nonce-at .before in
+    let read6-at = read7-at .before in
     let read5-at = read6-at .before in
     let read4-at = read5-at .before in
     let read3-at = read4-at .before in
     let read2-at = read3-at .before in
     let read-at = read2-at .before in
     rw (read-at .read .ensures, read2-at .read2 .ensures, read3-at .read3 .ensures, read4-at .read4 .ensures, read5-at .read5 .ensures, read6-at .read6 .ensures)
-    (rw (nonce-at .nonce .ensures, read7-at .read7 .ensures, tenths-at .tenths .ensures, flag-at .flag .ensures, read8-at .read8 .ensures))
+    (rw (read7-at .read7 .ensures, nonce-at .nonce .ensures, read8-at .read8 .ensures, tenths-at .tenths .ensures, flag-at .flag .ensures, read9-at .read9 .ensures))
 
 pub fields-spec : {M : Type 1} → statement M
 fields-spec =
@@ -68,10 +72,11 @@ fields-spec =
     read-requires-4
     read-requires-5
     read-requires-6
-    nonce-requires
     read-requires-7
+    nonce-requires
+    read-requires-8
     tenths-requires
     flag-requires
     shared-slice-read-battery
-    read-requires-8
+    read-requires-9
     returns)

@@ -60,8 +60,8 @@ key-at-requires c κs =
 decrypted-key-requires : tie.Need-decrypted-key-requires
 decrypted-key-requires c κs = search needs
 
-with-key-requires : tie.Need-with-key-requires
-with-key-requires c κs = search needs
+awaiting-requires : tie.Need-awaiting-requires
+awaiting-requires c κs = search needs
 
 signing-key-requires : tie.Need-signing-key-requires
 signing-key-requires c κs = search needs
@@ -75,8 +75,8 @@ granted-requires c κs = search needs
 returns-3 : tie.Need-returns-3
 returns-3 c =
     let signing-key-at = c .before .before in
-    let with-key-at = signing-key-at .before in
-    let decrypted-key-at = with-key-at .before in
+    let awaiting-at = signing-key-at .before in
+    let decrypted-key-at = awaiting-at .before in
     let key-at-at = decrypted-key-at .before in
     let if1-at = key-at-at .before .before in
     let may-replace-at = if1-at .before in
@@ -85,7 +85,7 @@ returns-3 c =
     let start = signed-by-owner-at .before .before in
     grant (start .args .u) (start .args .h .id) (signing-key-at .signing-key .ensures) (c .granted .ensures)
     (key-set (start .args .u) (request (start .args .h) (start .args .additional .now)) (found-row (signed-by-owner-at .signed-by-owner .ensures) (found-at .found .given .1)) (key-at-at .key-at .ensures)
-    (granted (may-replace-at .may-replace .ensures) (if1-at .if1 .left)) (decrypted-key-at .decrypted-key .ensures) (with-key-at .with-key .ensures))
+    (granted (may-replace-at .may-replace .ensures) (if1-at .if1 .left)) (decrypted-key-at .decrypted-key .ensures) (awaiting-at .awaiting .ensures))
 
 pub set-key-spec : {M : Type 1} → statement M
 set-key-spec =
@@ -101,7 +101,7 @@ set-key-spec =
     returns-2
     key-at-requires
     decrypted-key-requires
-    with-key-requires
+    awaiting-requires
     signing-key-requires
     slice-aggregate-granted
     granted-requires

@@ -3,6 +3,12 @@ use borrow.Author.Needs.{needs}
 use Rattle.unit.proofs.change.fresh.Statement.{statement}
 use Rattle.unit.proofs.change.fresh.Tie as tie
 
+no-identity-requires : tie.Need-no-identity-requires
+no-identity-requires c κs = search needs
+
+no-identity-requires-2 : tie.Need-no-identity-requires-2
+no-identity-requires-2 c κs = search needs
+
 no-identifier-requires : tie.Need-no-identifier-requires
 no-identifier-requires c κs = search needs
 
@@ -11,4 +17,4 @@ returns c =
     cc
 
 pub fresh-spec : {M : Type 1} → statement M
-fresh-spec = tie.close (tie.spec no-identifier-requires returns)
+fresh-spec = tie.close (tie.spec no-identity-requires no-identity-requires-2 no-identifier-requires returns)

@@ -8,6 +8,7 @@ use borrow.Author.Needs.{needs}
 use Rattle.laws.proofs.Flags.{granted, refuted, fails, agree, clash, both, and-left, and-right}
 use Rattle.unit.proofs.Lines.{Lines, lines, formed, settings-lines, settings-legal, accounts-lines, accounts-legal}
 use Rattle.unit.specs.declared.TagUnit.{TagUnit}
+use Rattle.unit.specs.WellFormed.{identityLegal}
 use Rattle.sizes.specs.Sizes.{fullConsent, highestBattery}
 use Rattle.unit.proofs.well_formed.well_formed.Statement.{statement}
 use Rattle.unit.proofs.well_formed.well_formed.Tie as tie
@@ -39,11 +40,11 @@ owner-legal-requires c κs = search needs
 returns-4 : tie.Need-returns-4
 returns-4 c = sym (fails _ (λ e. clash (lines _ e .owner) (refuted (c .before .owner-legal .ensures) (c .if4 .taken))))
 
-identity-legal-requires : tie.Need-identity-legal-requires
-identity-legal-requires c κs = search needs
+identities-legal-requires : tie.Need-identities-legal-requires
+identities-legal-requires c κs = search needs
 
 returns-5 : tie.Need-returns-5
-returns-5 c = sym (fails _ (λ e. clash (lines _ e .identity) (refuted (c .before .identity-legal .ensures) (c .if5 .taken))))
+returns-5 c = sym (fails _ (λ e. clash (both (lines _ e .identity) (lines _ e .waiting)) (refuted (c .before .identities-legal .ensures) (c .if5 .taken))))
 
 nonce-legal-requires : tie.Need-nonce-legal-requires
 nonce-legal-requires c κs = search needs
@@ -53,7 +54,7 @@ returns-6 c = sym (fails _ (λ e. clash (lines _ e .nonce) (refuted (c .before .
 
 sound-legal-requires : tie.Need-sound-legal-requires
 sound-legal-requires c κs =
-    let settings = c .before .before .before .before .before .before .before .before .before .before .before .before .before .before in
+    let settings = c .before .before .before .before .before .before .before .before .before .before .before .before .before .before .before in
     omega (arith, settings-lines _ (granted (settings .before .settings-legal .ensures) (settings .if1 .left)) .components)
 
 returns-7 : tie.Need-returns-7
@@ -74,13 +75,15 @@ returns-9 c =
     let sound = protection .before .before in
     let nonce = sound .before .before .before in
     let identity = nonce .before .before .before in
-    let owner = identity .before .before .before in
+    let owner = identity .before .before .before .before in
     let accounts = owner .before .before in
     let numbers = accounts .before .before .before in
     let settings = numbers .before .before in
     let u = settings .before .before .before .args .u in
     let most : leb (u .clock .tenth) 9 && (leb (u .consent) fullConsent && leb (u .battery) highestBattery) ≡ true =
     granted (numbers .before .numbers-legal .ensures) (numbers .if2 .left) in
+    let keys : identityLegal (u .identity) (u .accounts .owner) && identityLegal (u .waiting) (u .accounts .owner) ≡ true =
+    granted (identity .before .identities-legal .ensures) (identity .if5 .left) in
     let later = and-right (leb (u .clock .tenth) 9) _ most in
     c .identifier-legal .ensures
     ∙ agree _ _
@@ -91,7 +94,8 @@ returns-9 c =
       tenth = leb-true _ _ (and-left _ _ most);
       accounts = accounts-lines _ (granted (accounts .before .accounts-legal .ensures) (accounts .if3 .left));
       owner = granted (owner .before .owner-legal .ensures) (owner .if4 .left);
-      identity = granted (identity .before .identity-legal .ensures) (identity .if5 .left);
+      identity = and-left _ _ keys;
+      waiting = and-right (identityLegal (u .identity) (u .accounts .owner)) _ keys;
       nonce = granted (nonce .before .nonce-legal .ensures) (nonce .if6 .left);
       sound = granted (sound .before .sound-legal .ensures) (sound .if7 .left);
       protection = granted (protection .before .protection-legal .ensures) (protection .if8 .left);
@@ -113,7 +117,7 @@ well-formed-spec =
     returns-3
     owner-legal-requires
     returns-4
-    identity-legal-requires
+    identities-legal-requires
     returns-5
     nonce-legal-requires
     returns-6
