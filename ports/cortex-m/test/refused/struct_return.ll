@@ -1,0 +1,5 @@
+; refused: a by-value or struct-return attribute
+define internal void @inner(ptr noundef sret([8 x i8]) %a0) #0 {
+start:
+  ret void
+}
