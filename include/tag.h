@@ -4,7 +4,8 @@
  * takes the record, changes it where the call changes the unit, and gives one number:
  *   below TAG_REFUSAL_BASE   the answer bytes written, 0 where there are none;
  *   TAG_REFUSAL_BASE + n     refusal n; no answer byte was written;
- *   for tag_elapsed also TAG_ENDED_BASE times the tenth, counted from the call's start, at which a ring ended.
+ *   for tag_elapsed also TAG_ENDED_BASE times the tenth, counted from the call's start, at which a ring ended; for tag_sleep TAG_ENDED_BASE times the
+ *   tenths that it tells.
  * The macros TAG_CODE, TAG_REFUSED and TAG_ENDED_AT take the number apart.
  *
  * Any bytes may be handed in, of any lengths. Bytes that are no record of a well-formed unit are refused with 2 and stay as they were:
@@ -123,6 +124,10 @@ uint64_t tag_button(uint8_t *record, uint64_t record_bytes, uint8_t *answer, uin
 /* Time: that many tenths of a second passed. A ring that ends gives a notice of status 2. Refusals: 6, 2.
  * Gives 0, or 14 and TAG_ENDED_BASE times the tenth at which the ring ended. */
 uint64_t tag_elapsed(uint8_t *record, uint64_t record_bytes, uint32_t tenths, uint8_t *answer, uint64_t answer_bytes);
+
+/* How long the unit may sleep: the tenths until the next thing that time alone would do, which is a ring's end, consent's end, a new window or the return
+ * of the seconds to 0; 1 to 10,240. The record is only read. Refusal: 2. Gives TAG_ENDED_BASE times the tenths: TAG_ENDED_AT takes them out. */
+uint64_t tag_sleep(const uint8_t *record, uint64_t record_bytes);
 
 /* Pairing mode: 0 is off, anything else on. Refusal: 2. Gives 0. */
 uint64_t tag_pairing(uint8_t *record, uint64_t record_bytes, uint32_t on);

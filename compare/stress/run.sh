@@ -1,8 +1,9 @@
 #!/usr/bin/env bash
-# Random calls on random and damaged records over the C boundary, compared with the reference. Usage: run.sh [CALLS] [SEED]
+# The library over the C boundary, compared with the reference: random calls on random and damaged records, or the tenths to sleep.
+# Usage: run.sh [CALLS] [SEED]; run.sh sleep [COUNT] [SEED]
 set -eu
 cd "$(dirname "$0")/../.."
 rt staticlib firmware > /dev/null
 cd compare/stress
 CARGO_TARGET_DIR=../../target/compare/stress cargo build --release --offline --quiet
-exec ../../target/compare/stress/release/stress "${1:-1000000}" "${2:-1}"
+exec ../../target/compare/stress/release/stress "$@"

@@ -99,10 +99,13 @@ static void save_and_reload(const char *path) {
 
 int main(int count, char **words) {
     uint64_t number;
+    uint32_t tenths;
     provision();
     ring(50);
-    number = tag_elapsed(record, sizeof record, 80, answer, sizeof answer);
-    printf("80 tenths later: notice of %u bytes, status %u, the ring ended at tenth %u\n", (unsigned)expect("elapsed", number), answer[10],
+    tenths = TAG_ENDED_AT(tag_sleep(record, sizeof record));
+    printf("the chip sleeps for %u tenths, until time does something, and no further\n", (unsigned)tenths);
+    number = tag_elapsed(record, sizeof record, tenths, answer, sizeof answer);
+    printf("%u tenths later: notice of %u bytes, status %u, the ring ended at tenth %u\n", (unsigned)tenths, (unsigned)expect("elapsed", number), answer[10],
            (unsigned)TAG_ENDED_AT(number));
     ring(600);
     expect("button", tag_button(record, sizeof record, answer, sizeof answer));

@@ -15,6 +15,7 @@ extern "C" {
     fn tag_write(record: *mut u8, n: u64, request: *const u8, m: u64, answer: *mut u8, room: u64) -> u64;
     fn tag_button(record: *mut u8, n: u64, answer: *mut u8, room: u64) -> u64;
     fn tag_elapsed(record: *mut u8, n: u64, tenths: u32, answer: *mut u8, room: u64) -> u64;
+    fn tag_sleep(record: *const u8, n: u64) -> u64;
     fn tag_account_key(record: *mut u8, n: u64, key: *const u8, m: u64) -> u64;
     fn tag_disconnect(record: *mut u8, n: u64) -> u64;
     fn tag_lend_identifier(record: *mut u8, n: u64, r: *const u8, m: u64, id: *const u8, k: u64) -> u64;
@@ -141,8 +142,10 @@ fn session(path: &str) -> Result<(), u64> {
     let mut host = Host { record: [0; RECORD_SIZE], answer: [0; ANSWER_ROOM], nonce: 0 };
     provision(&mut host)?;
     host.ring(50)?;
-    let passed = host.ask(|u, n, a, room| unsafe { tag_elapsed(u, n, 80, a, room) })?;
-    println!("80 tenths later: notice of {} bytes, status {}, the ring ended at tenth {}", passed.bytes, host.answer[10], passed.ended);
+    let tenths = host.complete(|u, n| unsafe { tag_sleep(u, n) })?.ended as u32;
+    println!("the chip sleeps for {tenths} tenths, until time does something, and no further");
+    let passed = host.ask(|u, n, a, room| unsafe { tag_elapsed(u, n, tenths, a, room) })?;
+    println!("{tenths} tenths later: notice of {} bytes, status {}, the ring ended at tenth {}", passed.bytes, host.answer[10], passed.ended);
     host.ring(600)?;
     host.ask(|u, n, a, room| unsafe { tag_button(u, n, a, room) })?;
     println!("button: status {}, {}", host.answer[10], if host.record[SOUND_KIND_AT] == 1 { "ringing" } else { "silent" });

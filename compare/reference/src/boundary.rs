@@ -16,6 +16,7 @@ pub enum Call {
     AccountKey(Vec<u8>),
     Identifier(Vec<u8>, Vec<u8>),
     Frame,
+    Sleep,
 }
 
 impl Call {
@@ -33,6 +34,7 @@ impl Call {
             Call::AccountKey(_) => "key",
             Call::Identifier(..) => "identifier",
             Call::Frame => "frame",
+            Call::Sleep => "sleep",
         }
     }
 
@@ -44,7 +46,7 @@ impl Call {
 
 /// A refusal in the number that a call gives.
 pub const REFUSAL_BASE: u64 = 256;
-/// The tenth at which a ring ended, in the number that a call gives.
+/// The tenth at which a ring ended, and the tenths that the unit may sleep, in the number that a call gives.
 pub const ENDED_BASE: u64 = 65536;
 
 fn refused(refusal: u8) -> u64 {
@@ -91,6 +93,10 @@ pub fn run(call: &Call, record: &mut Vec<u8>, answer: &mut [u8]) -> u64 {
         Call::AccountKey(key) => number(tag::account_key(u, key).map(|_| 0)),
         Call::Identifier(r, id) => number(tag::lent_identifier(u, r, id).map(|_| 0)),
         Call::Frame => number(tag::frame(u, answer)),
+        Call::Sleep => match tag::sleep(u) {
+            Ok(tenths) => ENDED_BASE * tenths as u64,
+            Err(refusal) => refused(refusal),
+        },
     };
     let code = result % ENDED_BASE;
     if code < REFUSAL_BASE || (refused(0x80)..=refused(0x82)).contains(&code) {

@@ -676,6 +676,29 @@ pub fn elapsed(unit: &mut Unit, tenths: u32, answer: &mut [u8]) -> Result<Passed
     })
 }
 
+// ---------------------------------------------------------------- sleep
+
+/// The tenths until the next thing that time alone would do, found by trying: tenth after tenth passes, until a ring ends, consent ends, the
+/// window changes or the seconds return to 0.
+pub fn sleep(unit: &Unit) -> Result<u32, u8> {
+    if !unit.well_formed() {
+        return Err(NOT_WELL_FORMED);
+    }
+    let mut later = unit.clone();
+    let mut tenths = 0;
+    loop {
+        let before = (later.seconds, later.consent);
+        let ring_ended = one_tenth(&mut later).is_some();
+        tenths += 1;
+        let consent_ended = before.1 != 0 && later.consent == 0;
+        let window_changed = window_of(before.0) != window_of(later.seconds);
+        let seconds_returned = before.0 != 0 && later.seconds == 0;
+        if ring_ended || consent_ended || window_changed || seconds_returned {
+            return Ok(tenths);
+        }
+    }
+}
+
 // ---------------------------------------------------------------- disconnect
 
 /// The connection ended: a waiting key comes into force, sound ends and the identifier is dropped; without one nothing changes.

@@ -1,65 +1,19 @@
-//! Random calls with random and damaged records, rooms from 0 to 64 and writes of 0 to 300 bytes, made over the library's C boundary and on
-//! the reference, which was written from the paper alone. Return value, record bytes and answer bytes must agree after each call.
+//! The proved library beside the reference, which was written from the papers alone.
+//!
+//!     stress [CALLS] [SEED]         random calls with random and damaged records, rooms from 0 to 64 and writes of 0 to 300 bytes: return
+//!                                   value, record bytes and answer bytes must agree after each call
+//!     stress sleep [COUNT] [SEED]   the tenths that a unit may sleep, on random and damaged records, against those found tenth by tenth
 
+mod library;
+mod random;
+mod sleeping;
+
+use library::ours;
+use random::Random;
 use reference::boundary::{run, Call, ENDED_BASE, REFUSAL_BASE};
 use reference::record::{decode, SIZE as RECORD};
 use reference::tag::{self, Unit, ROOM, SLOTS};
 use std::collections::BTreeMap;
-
-extern "C" {
-    fn tag_new(record: *mut u8, n: u64, power: i32, components: u32, selectable: u32) -> u64;
-    fn tag_read(record: *mut u8, n: u64, nonce: *const u8, m: u64, answer: *mut u8, room: u64) -> u64;
-    fn tag_write(record: *mut u8, n: u64, data: *const u8, m: u64, answer: *mut u8, room: u64) -> u64;
-    fn tag_button(record: *mut u8, n: u64, answer: *mut u8, room: u64) -> u64;
-    fn tag_elapsed(record: *mut u8, n: u64, tenths: u32, answer: *mut u8, room: u64) -> u64;
-    fn tag_disconnect(record: *mut u8, n: u64) -> u64;
-    fn tag_pairing(record: *mut u8, n: u64, on: u32) -> u64;
-    fn tag_battery(record: *mut u8, n: u64, level: u32) -> u64;
-    fn tag_account_key(record: *mut u8, n: u64, key: *const u8, m: u64) -> u64;
-    fn tag_lend_identifier(record: *mut u8, n: u64, r: *const u8, m: u64, id: *const u8, k: u64) -> u64;
-    fn tag_frame(record: *mut u8, n: u64, answer: *mut u8, room: u64) -> u64;
-}
-
-/// xorshift64*: the same calls for the same seed.
-struct Random(u64);
-
-impl Random {
-    fn next(&mut self) -> u64 {
-        self.0 ^= self.0 >> 12;
-        self.0 ^= self.0 << 25;
-        self.0 ^= self.0 >> 27;
-        self.0.wrapping_mul(0x2545_F491_4F6C_DD1D)
-    }
-    fn below(&mut self, n: u64) -> u64 {
-        (self.next() >> 11) % n
-    }
-    fn one_in(&mut self, n: u64) -> bool {
-        self.below(n) == 0
-    }
-    fn bytes(&mut self, n: usize) -> Vec<u8> {
-        (0..n).map(|_| self.next() as u8).collect()
-    }
-}
-
-/// The call over the C boundary.
-fn ours(c: &Call, record: &mut [u8], answer: &mut [u8]) -> u64 {
-    let (r, n, a, room) = (record.as_mut_ptr(), record.len() as u64, answer.as_mut_ptr(), answer.len() as u64);
-    unsafe {
-        match c {
-            Call::New(p, k, s) => tag_new(r, n, *p, *k, *s),
-            Call::Read(b) => tag_read(r, n, b.as_ptr(), b.len() as u64, a, room),
-            Call::Write(b) => tag_write(r, n, b.as_ptr(), b.len() as u64, a, room),
-            Call::Button => tag_button(r, n, a, room),
-            Call::Elapsed(t) => tag_elapsed(r, n, *t, a, room),
-            Call::Disconnect => tag_disconnect(r, n),
-            Call::Pairing(on) => tag_pairing(r, n, *on),
-            Call::Battery(level) => tag_battery(r, n, *level),
-            Call::AccountKey(b) => tag_account_key(r, n, b.as_ptr(), b.len() as u64),
-            Call::Identifier(x, y) => tag_lend_identifier(r, n, x.as_ptr(), x.len() as u64, y.as_ptr(), y.len() as u64),
-            Call::Frame => tag_frame(r, n, a, room),
-        }
-    }
-}
 
 /// An ID that the unit often permits; a clear is rare.
 fn some_id(rng: &mut Random, unit: &Unit) -> u8 {
@@ -128,7 +82,7 @@ fn some_call(rng: &mut Random, record: &[u8]) -> Call {
     if unit.as_ref().is_some_and(|u| u.live) && rng.one_in(2) {
         return Call::Write(some_write(rng, record));
     }
-    match rng.below(42) {
+    match rng.below(43) {
         0 if rng.one_in(12) => Call::New(rng.below(140) as i32 - 110, rng.below(5) as u32, rng.below(3) as u32),
         0..=9 => {
             let n = if rng.one_in(12) { rng.below(12) as usize } else { 8 };
@@ -151,11 +105,12 @@ fn some_call(rng: &mut Random, record: &[u8]) -> Call {
             Call::Identifier(rng.bytes(n), rng.bytes(m))
         }
         36..=38 => Call::Disconnect,
+        39 => Call::Sleep,
         _ => Call::Frame,
     }
 }
 
-fn damaged(rng: &mut Random, record: &[u8]) -> Vec<u8> {
+pub fn damaged(rng: &mut Random, record: &[u8]) -> Vec<u8> {
     let mut b = record.to_vec();
     match rng.below(8) {
         0 => b.truncate(rng.below(RECORD as u64) as usize),
@@ -172,10 +127,8 @@ fn damaged(rng: &mut Random, record: &[u8]) -> Vec<u8> {
     b
 }
 
-fn main() {
-    let mut args = std::env::args().skip(1).map(|a| a.parse::<u64>().expect("a number"));
-    let calls = args.next().unwrap_or(1_000_000);
-    let mut rng = Random(args.next().unwrap_or(1).wrapping_mul(0x9E37_79B9_7F4A_7C15) | 1);
+/// Random calls, each on the record that the one before it left or on a damaged copy.
+fn compare_calls(calls: u64, mut rng: Random) {
     let mut counts: BTreeMap<(&str, u64), u64> = BTreeMap::new();
     let mut record = vec![0u8; RECORD];
     let began = std::time::Instant::now();
@@ -204,5 +157,20 @@ fn main() {
             0 => println!("{call:>10}  served       {n}"),
             _ => println!("{call:>10}  refused 0x{refusal:02x} {n}"),
         }
+    }
+}
+
+fn main() {
+    let mut words: Vec<String> = std::env::args().skip(1).collect();
+    let sleep = words.first().is_some_and(|word| word == "sleep");
+    if sleep {
+        words.remove(0);
+    }
+    let number = |place: usize, default: u64| words.get(place).map_or(default, |word| word.parse().expect("a number"));
+    let rng = Random::from_seed(number(1, 1));
+    if sleep {
+        sleeping::compare(number(0, 100_000), rng);
+    } else {
+        compare_calls(number(0, 1_000_000), rng);
     }
 }

@@ -11,6 +11,7 @@ use Rattle.demands.proofs.ConsentLasts.{consent-lasts}
 use Rattle.demands.proofs.Edges.{edges}
 use Rattle.demands.proofs.Time.{demand3}
 use Rattle.demands.proofs.RingLasts.{ring-lasts}
+use Rattle.demands.proofs.SleepUntil.{sleep-until}
 use Rattle.demands.proofs.RefusalOrder.{refusal-order}
 use Rattle.demands.proofs.RecordLines.{well-formed-exactly}
 use Rattle.demands.proofs.Refused.{refused}
@@ -34,4 +35,5 @@ demands =
       edges = edges;
       sleeps = demand3;
       ringLasts = ring-lasts;
+      sleepUntil = sleep-until;
     }

@@ -28,6 +28,8 @@ pub mod RingStarts
 pub mod RingRuns
 pub mod RingLasts
 pub mod ConsentLasts
+pub mod Sleeps
+pub mod SleepUntil
 pub mod KeyKept
 pub mod KeyBytes
 pub mod Blocks

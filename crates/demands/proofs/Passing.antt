@@ -23,7 +23,7 @@ tenth-sound : (u : TagUnit) → u .sound ≡ Sound.Silent → oneTenth u .sound 
 unfolding oneTenth ringOn
 tenth-sound u e = rw e
 
-end-sound : (u : TagUnit) → endsNext (u .sound) ≡ true → oneTenth u .sound ≡ Sound.Silent
+pub end-sound : (u : TagUnit) → endsNext (u .sound) ≡ true → oneTenth u .sound ≡ Sound.Silent
 unfolding oneTenth ringOn
 end-sound u e = rw e
 
@@ -38,7 +38,7 @@ module _ (n : ℕ) (o : Outcome) where
   unfolding afterTenth
   after-end e = rw e
 
-  after-none : endsNext (o .unit .sound) ≡ false
+  pub after-none : endsNext (o .unit .sound) ≡ false
       → afterTenth n o ≡ record { unit = oneTenth (o .unit); result = o .result; ended = o .ended }
   unfolding afterTenth
   after-none e = rw e
@@ -68,7 +68,7 @@ world-same p q r s = λ i. record { unit = p i; count = q i; answers = r i; noti
 abbrev reporting : Outcome → ℕ → List Notification
 reporting o count = at (count + o .ended) (bytesGiven (o .result))
 
-abbrev passed : ℕ → World → World
+abbrev pub passed : ℕ → World → World
 passed n w =
     record {
       unit = tenths n (w .unit) .unit;
@@ -96,7 +96,7 @@ next-passed n w =
     world-same (sym (after-unit n (tenths n (w .unit)))) (omega arith) refl
     (next-notified n (w .count) (tenths n (w .unit)) (w .notifications) (reported n (w .unit)))
 
-single : (n : ℕ) (w : World) → tenthsOn n w ≡ passed n w
+pub single : (n : ℕ) (w : World) → tenthsOn n w ≡ passed n w
 unfolding tenthsOn tenths
 single zero w = world-same refl (omega arith) refl (sym (append-nil (w .notifications)))
 single (suc n) w = ap tenthOn (single n w) ∙ next-passed n w

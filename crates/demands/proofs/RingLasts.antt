@@ -61,7 +61,7 @@ unfolding runs
 runs-append [] h w = refl
 runs-append (a ∷ g) h w = runs-append g h (ran slept a w)
 
-runs-unit : (h : List Act) (w : World) → runs slept h w .unit ≡ after h (w .unit)
+pub runs-unit : (h : List Act) (w : World) → runs slept h w .unit ≡ after h (w .unit)
 unfolding runs after
 runs-unit [] w = refl
 runs-unit (a ∷ h) w = runs-unit h (ran slept a w) ∙ ap (after h) (ran-unit a w)

@@ -78,7 +78,7 @@ tenths-aside zero u = search
 tenths-aside (suc n) u = rw (after-unit n (tenths n u)) (then (tenths-aside n u) (tenth-aside (tenths n u .unit)))
 
 -- consent
-tenth-consent : (u : TagUnit) → oneTenth u .consent ≡ u .consent - 1
+pub tenth-consent : (u : TagUnit) → oneTenth u .consent ≡ u .consent - 1
 unfolding oneTenth
 tenth-consent u = refl
 

@@ -28,12 +28,12 @@ ran-formed : (a : Act) (w : World) → wellFormed (w .unit) ≡ true → wellFor
 ran-formed a w h = rw (ran-unit a w) (formed .kept a (w .unit) h)
 
 -- A whole list, from any well-formed unit
-plain-run : (l : List Act) (w : World) → wellFormed (w .unit) ≡ true → runs slept l w ≡ runs waited l w
+pub plain-run : (l : List Act) (w : World) → wellFormed (w .unit) ≡ true → runs slept l w ≡ runs waited l w
 unfolding runs
 plain-run [] w h = refl
 plain-run (a ∷ l) w h = plain-run l (ran slept a w) (ran-formed a w h) ∙ ap (runs waited l) (ran-same a w h)
 
-course-run : (l : List Act) (w : World) → runs waited l w ≡ follow (course l) w
+pub course-run : (l : List Act) (w : World) → runs waited l w ≡ follow (course l) w
 unfolding tenthsOn
 course-run l w = follows 0 l w
 

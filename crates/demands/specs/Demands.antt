@@ -19,6 +19,9 @@
 --
 -- And of the change that keeps a new key waiting: "Demands 2 and 3 count the disconnect as one more event, and recovery speaks of the key in
 -- force."
+--
+-- And of the number of tenths that it may sleep: "Show that any shorter sleep, cut as you like, gives no notification, the same frame or frame
+-- refusal, and the same yes or no on consent; and that at the named tenth at least one of those four things happens."
 use Rattle.demands.specs.Ends.{Demand1}
 use Rattle.demands.specs.Formed.{Formed}
 use Rattle.demands.specs.Accepted.{Accepted}
@@ -33,6 +36,7 @@ use Rattle.demands.specs.WaitingKey.{WaitingKey}
 use Rattle.demands.specs.Time.{Demand3}
 use Rattle.demands.specs.RingLasts.{RingLasts}
 use Rattle.demands.specs.ConsentLasts.{ConsentLasts}
+use Rattle.demands.specs.SleepUntil.{SleepUntil}
 use Rattle.demands.specs.Edges.{Edges}
 
 pub record Demands : Type 0 where
@@ -55,3 +59,5 @@ pub record Demands : Type 0 where
   -- 3: however time is cut; and the reason given for it
   pub sleeps : Demand3
   pub ringLasts : RingLasts
+  -- and how long it may sleep
+  pub sleepUntil : SleepUntil

@@ -14,6 +14,7 @@ pub mod Time
 pub mod WaitingKey
 pub mod RingLasts
 pub mod ConsentLasts
+pub mod SleepUntil
 pub mod Edges
 pub mod RecoveryExample
 pub mod Demands

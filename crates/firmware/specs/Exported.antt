@@ -1,7 +1,7 @@
 -- What the exported functions give: one number, and the record's bytes and the answer bytes after the call.
 use Prim.Native.Nat.{ℕ, _+_, _*_, _^_}
 use mathlib.Core.Path.{_≡_}
-use mathlib.Core.Bool.{Bool, true, cond, _||_}
+use mathlib.Core.Bool.{Bool, true, false, cond, _||_}
 use mathlib.Core.List.{List}
 use lib.Dec.{eqb}
 use lib.ListN.{length}
@@ -9,9 +9,11 @@ use Rattle.laws.specs.Answer.{Result, gives, refuses, lentAfter}
 use Rattle.primitives.specs.Calls.{endNumber}
 use Rattle.primitives.specs.declared.Ending.{Ending}
 use Rattle.unit.specs.declared.TagUnit.{TagUnit}
+use Rattle.unit.specs.WellFormed.{wellFormed}
 use Rattle.unit.specs.Refusals.{End, wrote, refused}
 use Rattle.unit.specs.Outcome.{Outcome, refusing}
 use Rattle.unit.specs.Change.{noUnit}
+use Rattle.sleep.specs.Sleep.{Soonest}
 use Rattle.stored.specs.Record.{encoded, recordSize}
 
 -- the number of bytes written, or 256 and the refusal's number; and, 65,536 times, the tenth at which a ring ended
@@ -53,6 +55,11 @@ pub record ExportsAnswer (o : Outcome) (result : ℕ) (recordBefore recordNow be
 -- a new record: refusal 2 for bytes of another length, else as for a new unit
 abbrev pub newIn : List ℕ → Outcome → Outcome
 newIn before made = cond (eqb (length before) recordSize) made (refusing 2 noUnit)
+
+-- what the exported sleep promises, of the unit that the record means; the record is only read
+pub record ExportsSleep (u : TagUnit) (result : ℕ) : Type 0 where
+  pub until : wellFormed u ≡ true → (n : ℕ) × (result ≡ n * endedBase) × Soonest u n
+  pub refused : wellFormed u ≡ false → result ≡ refusalBase + 2
 
 -- what an exported primitive promises
 pub record ExportsDigest (answer : Result) (result : ℕ) (before after : List ℕ) : Type 0 where

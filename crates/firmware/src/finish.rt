@@ -2,9 +2,10 @@
 ghost use mathlib.Core.Path.{_≡_};
 ghost use mathlib.Core.Bool.{true};
 ghost use lib.ListN.{length};
-ghost use Rattle.unit.specs.Refusals.{endOf};
+ghost use Prim.Native.Nat.{_+_};
+ghost use Rattle.unit.specs.Refusals.{endOf, refusalNumber};
 ghost use Rattle.stored.specs.Record.{recordSize};
-ghost use Rattle.firmware.specs.Exported.{spends as spendsNonce, writesBack, Finishes, digestCode};
+ghost use Rattle.firmware.specs.Exported.{refusalBase, spends as spendsNonce, writesBack, Finishes, digestCode};
 use primitives::Ending;
 use unit::Refusal;
 use unit::Reply;
@@ -40,6 +41,13 @@ pub fn finish(bytes: &mut [u8], u: TagUnit, reply: Reply) -> u64
             REFUSAL_BASE + n
         }
     }
+}
+
+// The number of a refusal: 256 and the refusal's own.
+pub fn refusal_code(refusal: Refusal) -> u64
+    ensures { λ r. ⌜ r ≡ refusalBase + refusalNumber refusal ⌝ }
+{
+    REFUSAL_BASE + end::refusal_number(refusal) as u64
 }
 
 // The number of a primitive's end: the bytes written, or 256 and refusal 7.

@@ -8,9 +8,10 @@ ghost use Rattle.primitives.specs.Calls.{hashed, authenticated, encrypted, decr
 ghost use Rattle.tag.specs.Calls.{newUnit, call, elapsed as elapsedOf};
 ghost use Rattle.tag.specs.Calls as of;
 ghost use Rattle.stored.specs.Record.{decoded};
-ghost use Rattle.firmware.specs.Exported.{Exports, ExportsAnswer, ExportsDigest, newIn};
+ghost use Rattle.firmware.specs.Exported.{Exports, ExportsAnswer, ExportsSleep, ExportsDigest, newIn};
 use sizes::BLOCK_SIZE;
 use sizes::DIGEST_SIZE;
+use sleep::Sleep;
 use stored::RECORD_SIZE;
 use unit::Refusal;
 use unit::Reply;
@@ -86,6 +87,19 @@ pub extern "C" fn tag_elapsed(bytes: &mut [u8], tenths: u32, answer: &mut [u8]) 
     let reply = passed.reply;
     let code = finish::finish(bytes, after, reply);
     code + passed.ended as u64 * ENDED_BASE
+}
+
+// The tenths until the next thing that time alone would do, 65,536 times. The record stays. Refusal: 2.
+#[no_mangle]
+pub extern "C" fn tag_sleep(bytes: &[u8]) -> u64
+    ensures { λ code. ⌜ ExportsSleep (decoded (now (bytes .entry))) code ⌝ }
+{
+    let unit = stored::decode(bytes);
+    let sleep = tag::sleep_until(unit);
+    match sleep {
+        Sleep::Until(tenths) => tenths as u64 * ENDED_BASE,
+        Sleep::Refused(refusal) => finish::refusal_code(refusal),
+    }
 }
 
 // Pairing mode: 0 is off, anything else on. Refusal: 2.

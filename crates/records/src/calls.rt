@@ -46,6 +46,9 @@ fn named(name: &[u8], row: &[u8], record: &mut [u8], answer: &mut [u8]) -> u64 {
     if octets::same(name, b"disconnect") {
         return firmware::tag_disconnect(record);
     }
+    if octets::same(name, b"sleep") {
+        return firmware::tag_sleep(record);
+    }
     if octets::same(name, b"identifier") {
         return lend_identifier(row, record);
     }

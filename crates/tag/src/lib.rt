@@ -8,11 +8,13 @@ ghost use Rattle.unit.specs.declared.Refusal.{Refusal};
 ghost use Rattle.unit.specs.Change.{noUnit};
 ghost use Rattle.unit.specs.Outcome.{Answers, Completes};
 ghost use Rattle.time.specs.Passing.{Passes};
+ghost use Rattle.sleep.specs.Sleep.{Sleeps};
 ghost use Rattle.tag.specs.Calls.{newUnit, call, elapsed as elapsedOf};
 ghost use Rattle.tag.specs.Calls as of;
 use sizes::ANSWER_ROOM;
 use sizes::HIGHEST_BATTERY;
 use sizes::MOST_COMPONENTS;
+use sleep::Sleep;
 use time::Passed;
 use unit::Refusal;
 use unit::Reply;
@@ -111,6 +113,17 @@ pub fn elapsed(u: TagUnit, tenths: u32, answer: &mut [u8]) -> Passed
         return time::elapse(u, tenths, answer);
     }
     time::refused(u, Refusal::NotWellFormed)
+}
+
+// How long the unit may sleep: the tenths until the next thing that time alone would do, a ring's end, consent's end, a new window or the seconds' return
+// to 0. From 1 to 10,240. The unit stays as it is. Refusal: 2.
+pub fn sleep_until(u: TagUnit) -> Sleep
+    ensures { λ r. ⌜ Sleeps u r ⌝ }
+{
+    if well_formed::well_formed(u) {
+        return Sleep::Until(sleep::soonest(u));
+    }
+    Sleep::Refused(Refusal::NotWellFormed)
 }
 
 // Pairing mode on or off. Refusal: 2.

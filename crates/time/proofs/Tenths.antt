@@ -41,7 +41,7 @@ module _ (n : ℕ) (c : Clock) where
       let tenth : (c .tenth + n) % 10 + 1 ≡ (c .tenth + suc n) % 10 = omega arith in
       rw (ne-eqb ((c .tenth + n) % 10) 9 h, seconds, tenth)
 
-  clock-next : clockOn (clockLater n c) ≡ clockLater (suc n) c
+  pub clock-next : clockOn (clockLater n c) ≡ clockLater (suc n) c
   clock-next = go (decLt ((c .tenth + n) % 10) 9)
     where
       go : Dec ((c .tenth + n) % 10 < 9) → clockOn (clockLater n c) ≡ clockLater (suc n) c

@@ -170,7 +170,7 @@ static void draw_tenths(struct argument *a) {
     a->number = one_in(2) ? below(300) : one_in(4) ? chance() : tenths[below(sizeof tenths / sizeof *tenths)];
 }
 
-static const struct kind record = {draw_record, 1}, answer = {draw_answer, 1}, digest = {draw_digest, 1}, answer_block = {draw_block, 1}, nonce = {draw_nonce, 0},
+static const struct kind record = {draw_record, 1}, lent_record = {draw_record, 0}, answer = {draw_answer, 1}, digest = {draw_digest, 1}, answer_block = {draw_block, 1}, nonce = {draw_nonce, 0},
                          request = {draw_request, 0}, account_key = {draw_account_key, 0}, identifier = {draw_identifier, 0}, message = {draw_message, 0},
                          block = {draw_block, 0}, power = {draw_power, 0}, small = {draw_small, 0}, on_or_off = {draw_switch, 0}, tenths = {draw_tenths, 0};
 
@@ -184,6 +184,7 @@ static const struct kind record = {draw_record, 1}, answer = {draw_answer, 1}, d
     E(tag_write, 10, (S(0), S(1), S(2)), &record, &request, &answer)                      \
     E(tag_button, 20, (S(0), S(1)), &record, &answer)                                     \
     E(tag_elapsed, 20, (S(0), U(1), S(2)), &record, &tenths, &answer)                     \
+    E(tag_sleep, 20, (S(0)), &lent_record)                                                \
     E(tag_pairing, 10, (S(0), U(1)), &record, &on_or_off)                                 \
     E(tag_battery, 10, (S(0), U(1)), &record, &small)                                     \
     E(tag_account_key, 20, (S(0), S(1)), &record, &account_key)                           \

@@ -31,7 +31,7 @@ fn arguments(call: &Call) -> String {
         Call::Battery(level) => format!("level={level}\n"),
         Call::AccountKey(key) => format!("bytes={}\n", hex(key)),
         Call::Identifier(r, id) => format!("r={}\nid={}\n", hex(r), hex(id)),
-        Call::Button | Call::Disconnect | Call::Frame => String::new(),
+        Call::Button | Call::Disconnect | Call::Frame | Call::Sleep => String::new(),
     }
 }
 
@@ -95,6 +95,7 @@ fn good_calls(unit: &Unit) -> Vec<Call> {
         Call::AccountKey(unit.keys[0].to_vec()),
         Call::Identifier(vec![0x11; 20], vec![0x22; 20]),
         Call::Frame,
+        Call::Sleep,
     ]
 }
 

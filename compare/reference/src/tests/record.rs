@@ -36,6 +36,7 @@ fn broken(change: impl Fn(&mut Unit), of: &Unit) {
     assert_eq!(tag::frame(&mut unit, &mut answer), Err(2));
     assert_eq!(tag::pairing(&mut unit, true), Err(2));
     assert_eq!(tag::disconnect(&mut unit), Err(2));
+    assert_eq!(tag::sleep(&unit), Err(2));
     assert_eq!(tag::battery(&mut unit, 9), Err(2));
     assert_eq!(tag::account_key(&mut unit, &[]), Err(2));
     assert_eq!(tag::lent_identifier(&mut unit, &[], &[]), Err(2));

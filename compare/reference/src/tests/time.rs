@@ -1,7 +1,7 @@
 //! Elapsed time: the literal loop, the quick version, and cutting.
 
 use super::*;
-use crate::tag::{elapsed, one_tenth, pass_quickly, pass_slowly, Passed, Sound};
+use crate::tag::{elapsed, frame, one_tenth, sleep, window_of, pass_quickly, pass_slowly, Passed, Sound};
 
 fn random_unit(dice: &mut Dice) -> Unit {
     let mut unit = provisioned(3, 1);
@@ -112,5 +112,63 @@ fn no_time_changes_nothing() {
         assert_eq!(copy, unit);
         assert_eq!(answer, [0xa5; 42]);
         assert_eq!(elapsed(&mut copy, 0, &mut answer[..41]), Err(6));
+    }
+}
+
+#[test]
+fn sleep_by_hand() {
+    let mut unit = tag::new_unit(0, 1, 0).unwrap();
+    assert_eq!(sleep(&unit), Ok(10_240));
+    unit.tenth = 1;
+    assert_eq!(sleep(&unit), Ok(10_239));
+    (unit.seconds, unit.tenth) = (1_023, 9);
+    assert_eq!(sleep(&unit), Ok(1));
+    (unit.seconds, unit.tenth) = (1_024, 0);
+    assert_eq!(sleep(&unit), Ok(10_240));
+    (unit.seconds, unit.tenth) = (u32::MAX, 8);
+    assert_eq!(sleep(&unit), Ok(2));
+    unit.consent = 1;
+    assert_eq!(sleep(&unit), Ok(1));
+    unit.seconds = 0;
+    unit.consent = 600;
+    assert_eq!(sleep(&unit), Ok(600));
+    let mut unit = provisioned(1, 0);
+    unit.sound = Sound::Ringing { mask: 1, volume: 0, left: 6_000 };
+    assert_eq!(sleep(&unit), Ok(6_000));
+    unit.consent = 599;
+    unit.pairing = true;
+    assert_eq!(sleep(&unit), Ok(599));
+    unit.sound = Sound::Ringing { mask: 1, volume: 0, left: 598 };
+    assert_eq!(sleep(&unit), Ok(598));
+}
+
+/// A shorter sleep, however it is cut, gives no notice, the same frame or refusal, the same yes or no on consent; at the named tenth one of
+/// the four things happens.
+#[test]
+fn sleeps_and_what_they_miss() {
+    let mut dice = Dice(8);
+    for _ in 0..300 {
+        let mut unit = random_unit(&mut dice);
+        if dice.below(2) == 0 {
+            tag::lent_identifier(&mut unit, &[1; 20], &[2; 20]).unwrap();
+        }
+        let tenths = sleep(&unit).unwrap();
+        assert!((1..=10_240).contains(&tenths));
+        let mut shown = ([0xa5; 42], [0xa5; 42]);
+        let before = frame(&mut unit.clone(), &mut shown.0);
+        let mut asleep = unit.clone();
+        let mut rest = tenths - 1;
+        while rest > 0 {
+            let piece = 1 + dice.below(rest as u64) as u32;
+            assert_eq!(elapsed(&mut asleep, piece, &mut [0; 42]).unwrap().at, 0);
+            rest -= piece;
+        }
+        assert_eq!(frame(&mut asleep.clone(), &mut shown.1), before);
+        assert_eq!(shown.0, shown.1);
+        assert_eq!(asleep.consent == 0, unit.consent == 0);
+        let mut awake = asleep.clone();
+        let ended = elapsed(&mut awake, 1, &mut [0; 42]).unwrap().at != 0;
+        let consent = asleep.consent != 0 && awake.consent == 0;
+        assert!(ended || consent || window_of(awake.seconds) != window_of(asleep.seconds) || awake.seconds == 0);
     }
 }

@@ -1,0 +1,39 @@
+//! The proved library's calls over the C boundary, as include/tag.h declares them.
+
+use reference::boundary::Call;
+
+extern "C" {
+    fn tag_new(record: *mut u8, n: u64, power: i32, components: u32, selectable: u32) -> u64;
+    fn tag_read(record: *mut u8, n: u64, nonce: *const u8, m: u64, answer: *mut u8, room: u64) -> u64;
+    fn tag_write(record: *mut u8, n: u64, data: *const u8, m: u64, answer: *mut u8, room: u64) -> u64;
+    fn tag_button(record: *mut u8, n: u64, answer: *mut u8, room: u64) -> u64;
+    fn tag_elapsed(record: *mut u8, n: u64, tenths: u32, answer: *mut u8, room: u64) -> u64;
+    fn tag_disconnect(record: *mut u8, n: u64) -> u64;
+    fn tag_pairing(record: *mut u8, n: u64, on: u32) -> u64;
+    fn tag_battery(record: *mut u8, n: u64, level: u32) -> u64;
+    fn tag_account_key(record: *mut u8, n: u64, key: *const u8, m: u64) -> u64;
+    fn tag_lend_identifier(record: *mut u8, n: u64, r: *const u8, m: u64, id: *const u8, k: u64) -> u64;
+    fn tag_frame(record: *mut u8, n: u64, answer: *mut u8, room: u64) -> u64;
+    fn tag_sleep(record: *const u8, n: u64) -> u64;
+}
+
+/// The call over the C boundary.
+pub fn ours(c: &Call, record: &mut [u8], answer: &mut [u8]) -> u64 {
+    let (r, n, a, room) = (record.as_mut_ptr(), record.len() as u64, answer.as_mut_ptr(), answer.len() as u64);
+    unsafe {
+        match c {
+            Call::New(p, k, s) => tag_new(r, n, *p, *k, *s),
+            Call::Read(b) => tag_read(r, n, b.as_ptr(), b.len() as u64, a, room),
+            Call::Write(b) => tag_write(r, n, b.as_ptr(), b.len() as u64, a, room),
+            Call::Button => tag_button(r, n, a, room),
+            Call::Elapsed(t) => tag_elapsed(r, n, *t, a, room),
+            Call::Disconnect => tag_disconnect(r, n),
+            Call::Pairing(on) => tag_pairing(r, n, *on),
+            Call::Battery(level) => tag_battery(r, n, *level),
+            Call::AccountKey(b) => tag_account_key(r, n, b.as_ptr(), b.len() as u64),
+            Call::Identifier(x, y) => tag_lend_identifier(r, n, x.as_ptr(), x.len() as u64, y.as_ptr(), y.len() as u64),
+            Call::Frame => tag_frame(r, n, a, room),
+            Call::Sleep => tag_sleep(r, n),
+        }
+    }
+}
