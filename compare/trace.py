@@ -85,7 +85,7 @@ anew, and without it the program fails where this page is not what it would writ
 - A session is crates/replay_cases/data/sessions/NAME.txt, with answers of the independent program in compare/reference; a case is an input in
   crates/replay_cases/data/malformed with answers made by hand. Both are run by the program `replay_cases`.
 - A program is run by the gate and held to the answers in its crate: `records` runs each call over damaged records and with too little room, with answers of the
-  same independent program; `vectors` runs the vectors of the standards.
+  same independent program; `vectors` runs the vectors of the standards, and sizes at the edges.
 - "–" with words in brackets: the sentence asks for nothing that could be held against the tag. An empty cell: nothing of that kind.
 
 {counts}

@@ -1,11 +1,18 @@
-// Published vectors, run through the public calls of the primitives. What is printed is held to the publishers' values in `stdout`.
+// Published vectors, and sizes at the edges, run through the public calls of the primitives. What is printed is held to the values in `stdout`: the
+// publishers', and those that compare/vectors.py has from independent programs.
 mod aes128;
 mod aes256;
+mod aesavs;
+mod edges;
 mod print;
 mod sha256_and_hmac;
+mod shavs;
 
 fn main() {
     sha256_and_hmac::run();
+    shavs::run();
     aes128::run();
     aes256::run();
+    aesavs::run();
+    edges::run();
 }

@@ -17,6 +17,12 @@ pub fn first_half(bytes: &[u8]) {
     }
 }
 
+// A number in decimal, and a space.
+pub fn number(n: u32) {
+    io::print_decimal(STDOUT_FILENO, n as u64);
+    text(b" ");
+}
+
 pub fn text(bytes: &[u8]) {
     io::write_all(STDOUT_FILENO, bytes);
 }

@@ -1,9 +1,9 @@
-// SHA-256 and HMAC-SHA-256. Sources: NIST, the examples of FIPS 180-4, short messages of SHAVS and SHA2_Additional; NESSIE; RFC 4231, section 4;
-// and GNU coreutils for three lengths at the edges.
+// SHA-256 and HMAC-SHA-256. Sources: NIST, the examples of FIPS 180-4 and SHA2_Additional; NESSIE; RFC 4231, section 4; and GNU coreutils for three lengths
+// at the edges.
 use crate::print;
 
 // Prints the name of a vector and the digest of its message.
-fn hashes(name: &[u8], message: &[u8]) {
+pub fn hashes(name: &[u8], message: &[u8]) {
     let mut digest = [0u8; 32];
     primitives::sha256(message, &mut digest);
     print::text(name);
@@ -40,15 +40,6 @@ fn examples() {
         b"896 bits ",
         b"abcdefghbcdefghicdefghijdefghijkefghijklfghijklmghijklmnhijklmnoijklmnopjklmnopqklmnopqrlmnopqrsmnopqrstnopqrstu",
     );
-}
-
-fn short_messages() {
-    print::text(b"NIST, SHAVS, short messages\n");
-    hashes(b"empty ", b"");
-    hashes(b"d3 ", b"\xd3");
-    hashes(b"11af ", b"\x11\xaf");
-    hashes(b"b4190e ", b"\xb4\x19\x0e");
-    hashes(b"74ba2521 ", b"\x74\xba\x25\x21");
 }
 
 fn additional() {
@@ -111,7 +102,6 @@ fn tags() {
 
 pub fn run() {
     examples();
-    short_messages();
     additional();
     nessie();
     edges();

@@ -1,0 +1,33 @@
+-- `vectors::aesavs::chained` is safe and ends: the measure is the blocks that are left.
+use borrow.Author.Needs.{needs}
+use Rattle.vectors.proofs.aesavs.chained.Statement.{statement}
+use Rattle.vectors.proofs.aesavs.chained.Tie as tie
+
+abbrev Inv-loop : tie.InvT-loop
+Inv-loop way key block₀ left₀ block left = Unit {0}
+
+abbrev μ-loop : tie.MeasureT-loop
+μ-loop way key block₀ left₀ block left = left
+
+loop-holds : tie.Need-loop-holds Inv-loop μ-loop
+loop-holds c = search needs
+
+once-requires : tie.Need-once-requires Inv-loop μ-loop
+once-requires c κs = search needs
+
+sub-left : tie.Need-sub-left Inv-loop μ-loop
+sub-left c = search needs
+
+loop-less : tie.Need-loop-less Inv-loop μ-loop
+loop-less c = search needs
+
+loop-again : tie.Need-loop-again Inv-loop μ-loop
+loop-again c = search needs
+
+returns : tie.Need-returns Inv-loop μ-loop
+returns c = search needs
+
+pub chained-spec : {M : Type 1} → statement M
+chained-spec =
+    tie.close
+    (tie.spec Inv-loop μ-loop loop-holds once-requires sub-left loop-less loop-again returns)
