@@ -4,9 +4,10 @@
  * takes the record, changes it where the call changes the unit, and gives one number:
  *   below TAG_REFUSAL_BASE   the answer bytes written, 0 where there are none;
  *   TAG_REFUSAL_BASE + n     refusal n; no answer byte was written;
- *   for tag_elapsed also TAG_ENDED_BASE times the tenth, counted from the call's start, at which a ring ended; for tag_sleep TAG_ENDED_BASE times the
- *   tenths that it tells.
- * The macros TAG_CODE, TAG_REFUSED and TAG_ENDED_AT take the number apart.
+ *   for tag_elapsed also TAG_ENDED_BASE times the tenth, counted from the call's start, at which a ring ended;
+ *   for tag_sleep TAG_ENDED_BASE times the tenths that it tells;
+ *   for refusal 8 also TAG_ENDED_BASE times the place of the first wrong byte, counted from 0.
+ * The macros TAG_CODE, TAG_REFUSED, TAG_ENDED_AT and TAG_PLACE take the number apart.
  *
  * Any bytes may be handed in, of any lengths. Bytes that are no record of a well-formed unit are refused with 2 and stay as they were:
  * those of another length or version, zeroed memory and erased flash among them.
@@ -53,6 +54,7 @@ extern "C" {
 #define TAG_ENDED_AT(number) ((uint32_t)((number) / TAG_ENDED_BASE))
 #define TAG_REFUSED(number) (TAG_CODE(number) >= TAG_REFUSAL_BASE)
 #define TAG_REFUSAL(number) (TAG_CODE(number) - TAG_REFUSAL_BASE)
+#define TAG_PLACE(number) TAG_ENDED_AT(number)
 
 /* The refusals. The first three spend the nonce and leave the rest of the unit; the others leave the whole record. */
 #define TAG_NOT_AUTHENTICATED 0x80
@@ -65,6 +67,7 @@ extern "C" {
 #define TAG_NO_FRAME 5
 #define TAG_NO_ROOM 6
 #define TAG_WRONG_SIZE 7
+#define TAG_WRONG_BYTE 8
 
 /* The status byte of a ring notice. */
 #define TAG_RING_STARTED 0
@@ -147,6 +150,28 @@ uint64_t tag_lend_identifier(uint8_t *record, uint64_t record_bytes, const uint8
 
 /* The advertised frame. Refusals: 6, 2, 5 without an identity key in force or an identifier of the current window. Gives 28 or 29. */
 uint64_t tag_frame(uint8_t *record, uint64_t record_bytes, uint8_t *answer, uint64_t answer_bytes);
+
+/* The reader of frames, of this tag or another, without a record: any bytes may be handed in. A frame is read into parts that the caller lends:
+ *   from TAG_PARTS_IDENTIFIER_AT, TAG_IDENTIFIER_SIZE bytes   the identifier;
+ *   at TAG_PARTS_PROTECTION_AT                                1 under unwanted tracking protection, else 0;
+ *   at TAG_PARTS_FLAGS_SHOWN_AT                               1 where the frame has a flags byte, else 0;
+ *   at TAG_PARTS_FLAGS_BYTE_AT                                the flags byte as sent, or 0 where there is none;
+ *   at TAG_PARTS_BATTERY_AT, with r only                      the battery level, 0 to 3. */
+#define TAG_PARTS_IDENTIFIER_AT 0
+#define TAG_PARTS_PROTECTION_AT (TAG_PARTS_IDENTIFIER_AT + TAG_IDENTIFIER_SIZE)
+#define TAG_PARTS_FLAGS_SHOWN_AT (TAG_PARTS_PROTECTION_AT + 1)
+#define TAG_PARTS_FLAGS_BYTE_AT (TAG_PARTS_FLAGS_SHOWN_AT + 1)
+#define TAG_PARTS_SIZE (TAG_PARTS_FLAGS_BYTE_AT + 1)
+#define TAG_PARTS_BATTERY_AT TAG_PARTS_SIZE
+#define TAG_PARTS_WITH_R_SIZE (TAG_PARTS_BATTERY_AT + 1)
+
+/* Reads a frame. Refusals: 6 where parts has fewer than TAG_PARTS_SIZE bytes; 8 with the place of the first wrong byte, which for a frame cut short is
+ * its length, for one too long that of the first byte too many. Gives TAG_PARTS_SIZE. */
+uint64_t tag_frame_read(const uint8_t *frame, uint64_t frame_bytes, uint8_t *parts, uint64_t parts_bytes);
+
+/* Reads a frame with the r of its identifier. Refusals: 6 where parts has fewer than TAG_PARTS_WITH_R_SIZE bytes; 8 as above, whatever r; 1 for an r of
+ * other than TAG_IDENTIFIER_SIZE bytes; 8 at the flags byte where this r shows that our writer did not make it. Gives TAG_PARTS_WITH_R_SIZE. */
+uint64_t tag_frame_read_with_r(const uint8_t *frame, uint64_t frame_bytes, const uint8_t *r, uint64_t r_bytes, uint8_t *parts, uint64_t parts_bytes);
 
 /* The primitives. Messages and HMAC keys have up to TAG_LONGEST_MESSAGE bytes, AES keys and blocks TAG_BLOCK_SIZE; a hash answer has
  * TAG_DIGEST_SIZE bytes, a block answer TAG_BLOCK_SIZE. Refusal: 7. They give their answer's bytes. */

@@ -1,6 +1,6 @@
 #!/usr/bin/env bash
-# The library over the C boundary, compared with the reference: random calls on random and damaged records, or the tenths to sleep.
-# Usage: run.sh [CALLS] [SEED]; run.sh sleep [COUNT] [SEED]
+# The library over the C boundary, compared with the reference: random calls on random and damaged records, the tenths to
+# sleep, the frame reader. Usage: run.sh [CALLS] [SEED]; run.sh sleep [COUNT] [SEED]; run.sh frames [COUNT] [SEED]
 set -eu
 cd "$(dirname "$0")/../.."
 rt staticlib firmware > /dev/null

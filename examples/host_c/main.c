@@ -1,5 +1,5 @@
-/* A host in C: provisions a unit, rings it, lets the ring time out, stops one with the button, recovers the key, and saves and reloads
- * the record. It plays the phone too, which makes the requests with the library's own primitives. */
+/* A host in C: provisions a unit, rings it, lets the ring time out, stops one with the button, recovers the key, saves and reloads
+ * the record, and reads its own frame. It plays the phone too, which makes the requests with the library's own primitives. */
 #include "tag.h"
 #include <stdio.h>
 #include <stdlib.h>
@@ -84,8 +84,9 @@ static void recover(void) {
     printf("recovery after a press of the button: the identity key is %s\n", memcmp(back, identity, 32) ? "another" : "the same");
 }
 
+static const uint8_t r[TAG_IDENTIFIER_SIZE] = {1}, id[TAG_IDENTIFIER_SIZE] = {2};
+
 static void save_and_reload(const char *path) {
-    static const uint8_t r[TAG_IDENTIFIER_SIZE] = {1}, id[TAG_IDENTIFIER_SIZE] = {2};
     FILE *file = fopen(path, "wb");
     if (!file || fwrite(record, 1, sizeof record, file) != sizeof record || fclose(file)) exit(1);
     memset(record, 0xFF, sizeof record);
@@ -95,6 +96,20 @@ static void save_and_reload(const char *path) {
     if (!file || fread(record, 1, sizeof record, file) != sizeof record || fclose(file)) exit(1);
     expect("lend", tag_lend_identifier(record, sizeof record, r, sizeof r, id, sizeof id));
     printf("record reloaded: a frame of %u bytes\n", (unsigned)expect("frame", tag_frame(record, sizeof record, answer, sizeof answer)));
+}
+
+/* What a returns desk does: reads the frame that the unit sends. */
+static void read_own_frame(void) {
+    uint8_t parts[TAG_PARTS_WITH_R_SIZE];
+    uint64_t number;
+    uint32_t bytes;
+    expect("battery", tag_battery(record, sizeof record, 2));
+    bytes = expect("frame", tag_frame(record, sizeof record, answer, sizeof answer));
+    expect("frame read", tag_frame_read_with_r(answer, bytes, r, sizeof r, parts, sizeof parts));
+    printf("frame of %u bytes read back: the identifier is %s, protection %u, battery %u\n", (unsigned)bytes,
+           memcmp(parts + TAG_PARTS_IDENTIFIER_AT, id, sizeof id) ? "another" : "the same", parts[TAG_PARTS_PROTECTION_AT], parts[TAG_PARTS_BATTERY_AT]);
+    number = tag_frame_read(answer, bytes - 1, parts, sizeof parts);
+    printf("the frame cut by a byte: refused with %u at place %u\n", (unsigned)TAG_REFUSAL(number), (unsigned)TAG_PLACE(number));
 }
 
 int main(int count, char **words) {
@@ -112,5 +127,6 @@ int main(int count, char **words) {
     printf("button: status %u, %s\n", answer[10], record[TAG_SOUND_KIND_AT] ? "ringing" : "silent");
     recover();
     save_and_reload(count > 1 ? words[1] : "unit.record");
+    read_own_frame();
     return 0;
 }

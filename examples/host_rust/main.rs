@@ -1,5 +1,5 @@
-//! A host in Rust: provisions a unit, rings it, lets the ring time out, stops one with the button, recovers the key, and saves and reloads
-//! the record. It plays the phone too, which makes the requests with the library's own primitives.
+//! A host in Rust: provisions a unit, rings it, lets the ring time out, stops one with the button, recovers the key, saves and reloads
+//! the record, and reads its own frame. It plays the phone too, which makes the requests with the library's own primitives.
 use std::fs;
 
 const RECORD_SIZE: usize = 248;
@@ -7,6 +7,7 @@ const ANSWER_ROOM: usize = 42;
 const IDENTITY_HELD_AT: usize = 119;
 const WAITING_HELD_AT: usize = 152;
 const SOUND_KIND_AT: usize = 185;
+const PARTS_WITH_R_SIZE: usize = 24;
 
 // The declarations of include/tag.h: a slice passes as its pointer and its length.
 extern "C" {
@@ -20,6 +21,9 @@ extern "C" {
     fn tag_disconnect(record: *mut u8, n: u64) -> u64;
     fn tag_lend_identifier(record: *mut u8, n: u64, r: *const u8, m: u64, id: *const u8, k: u64) -> u64;
     fn tag_frame(record: *mut u8, n: u64, answer: *mut u8, room: u64) -> u64;
+    fn tag_frame_read(frame: *const u8, n: u64, parts: *mut u8, room: u64) -> u64;
+    fn tag_frame_read_with_r(frame: *const u8, n: u64, r: *const u8, m: u64, parts: *mut u8, room: u64) -> u64;
+    fn tag_battery(record: *mut u8, n: u64, level: u32) -> u64;
     fn tag_sha256(message: *const u8, n: u64, answer: *mut u8, room: u64) -> u64;
     fn tag_hmac_sha256(key: *const u8, n: u64, message: *const u8, m: u64, answer: *mut u8, room: u64) -> u64;
     fn tag_aes128_encrypt(key: *const u8, n: u64, block: *const u8, m: u64, answer: *mut u8, room: u64) -> u64;
@@ -124,17 +128,33 @@ fn recover(host: &mut Host) -> Result<(), u64> {
     Ok(())
 }
 
+const R: [u8; 20] = [1; 20];
+const ID: [u8; 20] = [2; 20];
+
 fn save_and_reload(host: &mut Host, path: &str) -> Result<(), u64> {
-    let (r, id) = ([1u8; 20], [2u8; 20]);
     fs::write(path, host.record).expect("the record is saved");
     host.record.fill(0xFF);
     if let Err(refusal) = host.ask(|u, n, a, room| unsafe { tag_frame(u, n, a, room) }) {
         println!("after a reboot, with flash that holds no record: the frame is refused with {refusal}");
     }
     host.record.copy_from_slice(&fs::read(path).expect("the record is read"));
-    host.complete(|u, n| unsafe { tag_lend_identifier(u, n, r.as_ptr(), 20, id.as_ptr(), 20) })?;
+    host.complete(|u, n| unsafe { tag_lend_identifier(u, n, R.as_ptr(), 20, ID.as_ptr(), 20) })?;
     let frame = host.ask(|u, n, a, room| unsafe { tag_frame(u, n, a, room) })?;
     println!("record reloaded: a frame of {} bytes", frame.bytes);
+    Ok(())
+}
+
+/// What a returns desk does: reads the frame that the unit sends.
+fn read_own_frame(host: &mut Host) -> Result<(), u64> {
+    let mut parts = [0; PARTS_WITH_R_SIZE];
+    host.complete(|u, n| unsafe { tag_battery(u, n, 2) })?;
+    let frame = host.ask(|u, n, a, room| unsafe { tag_frame(u, n, a, room) })?.bytes as u64;
+    let sent = host.answer.as_ptr();
+    given(unsafe { tag_frame_read_with_r(sent, frame, R.as_ptr(), 20, parts.as_mut_ptr(), parts.len() as u64) })?;
+    let same = if parts[..20] == ID { "the same" } else { "another" };
+    println!("frame of {frame} bytes read back: the identifier is {same}, protection {}, battery {}", parts[20], parts[23]);
+    let number = unsafe { tag_frame_read(sent, frame - 1, parts.as_mut_ptr(), parts.len() as u64) };
+    println!("the frame cut by a byte: refused with {} at place {}", number % 65536 - 256, number / 65536);
     Ok(())
 }
 
@@ -150,7 +170,8 @@ fn session(path: &str) -> Result<(), u64> {
     host.ask(|u, n, a, room| unsafe { tag_button(u, n, a, room) })?;
     println!("button: status {}, {}", host.answer[10], if host.record[SOUND_KIND_AT] == 1 { "ringing" } else { "silent" });
     recover(&mut host)?;
-    save_and_reload(&mut host, path)
+    save_and_reload(&mut host, path)?;
+    read_own_frame(&mut host)
 }
 
 fn main() {

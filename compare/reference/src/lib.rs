@@ -3,6 +3,7 @@
 
 pub mod boundary;
 pub mod damage;
+pub mod frames;
 pub mod primitives;
 pub mod record;
 pub mod replay;

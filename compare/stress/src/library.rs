@@ -14,6 +14,8 @@ extern "C" {
     fn tag_account_key(record: *mut u8, n: u64, key: *const u8, m: u64) -> u64;
     fn tag_lend_identifier(record: *mut u8, n: u64, r: *const u8, m: u64, id: *const u8, k: u64) -> u64;
     fn tag_frame(record: *mut u8, n: u64, answer: *mut u8, room: u64) -> u64;
+    fn tag_frame_read(frame: *const u8, n: u64, parts: *mut u8, room: u64) -> u64;
+    fn tag_frame_read_with_r(frame: *const u8, n: u64, r: *const u8, m: u64, parts: *mut u8, room: u64) -> u64;
     fn tag_sleep(record: *const u8, n: u64) -> u64;
 }
 
@@ -34,6 +36,17 @@ pub fn ours(c: &Call, record: &mut [u8], answer: &mut [u8]) -> u64 {
             Call::Identifier(x, y) => tag_lend_identifier(r, n, x.as_ptr(), x.len() as u64, y.as_ptr(), y.len() as u64),
             Call::Frame => tag_frame(r, n, a, room),
             Call::Sleep => tag_sleep(r, n),
+        }
+    }
+}
+
+/// The reader over the C boundary, with or without r.
+pub fn read_frame(text: &[u8], r: Option<&[u8]>, parts: &mut [u8]) -> u64 {
+    let (t, n, p, room) = (text.as_ptr(), text.len() as u64, parts.as_mut_ptr(), parts.len() as u64);
+    unsafe {
+        match r {
+            None => tag_frame_read(t, n, p, room),
+            Some(r) => tag_frame_read_with_r(t, n, r.as_ptr(), r.len() as u64, p, room),
         }
     }
 }

@@ -3,7 +3,9 @@
 //!     stress [CALLS] [SEED]         random calls with random and damaged records, rooms from 0 to 64 and writes of 0 to 300 bytes: return
 //!                                   value, record bytes and answer bytes must agree after each call
 //!     stress sleep [COUNT] [SEED]   the tenths that a unit may sleep, on random and damaged records, against those found tenth by tenth
+//!     stress frames [COUNT] [SEED]  the frame reader, on every value at every place, every length to 64, and COUNT texts near frames
 
+mod frames;
 mod library;
 mod random;
 mod sleeping;
@@ -161,16 +163,17 @@ fn compare_calls(calls: u64, mut rng: Random) {
 }
 
 fn main() {
-    let mut words: Vec<String> = std::env::args().skip(1).collect();
-    let sleep = words.first().is_some_and(|word| word == "sleep");
-    if sleep {
-        words.remove(0);
-    }
-    let number = |place: usize, default: u64| words.get(place).map_or(default, |word| word.parse().expect("a number"));
+    let words: Vec<String> = std::env::args().skip(1).collect();
+    let (what, numbers) = match words.first() {
+        Some(word) if word.parse::<u64>().is_err() => (word.as_str(), &words[1..]),
+        _ => ("calls", &words[..]),
+    };
+    let number = |place: usize, default: u64| numbers.get(place).map_or(default, |word| word.parse().expect("a number"));
     let rng = Random::from_seed(number(1, 1));
-    if sleep {
-        sleeping::compare(number(0, 100_000), rng);
-    } else {
-        compare_calls(number(0, 1_000_000), rng);
+    match what {
+        "calls" => compare_calls(number(0, 1_000_000), rng),
+        "sleep" => sleeping::compare(number(0, 100_000), rng),
+        "frames" => frames::compare(number(0, 100_000), rng),
+        _ => panic!("calls, sleep or frames"),
     }
 }

@@ -16,6 +16,7 @@ use Rattle.demands.proofs.RefusalOrder.{refusal-order}
 use Rattle.demands.proofs.RecordLines.{well-formed-exactly}
 use Rattle.demands.proofs.Refused.{refused}
 use Rattle.demands.proofs.Events.{events}
+use Rattle.demands.proofs.FrameRead.{frame-read}
 
 pub demands : Demands
 demands =
@@ -27,6 +28,7 @@ demands =
       accepted = accepted;
       refused = refused;
       events = events;
+      framesRead = frame-read;
       nonces = nonces;
       recovered = recovery;
       recoveredOnce = example;

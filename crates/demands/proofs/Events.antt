@@ -144,7 +144,7 @@ lends-it u room r id right long₁ long₂ held =
     (record { identifierIs = refl; rest = (refl, refl, refl, refl, refl, refl, refl, refl, refl, refl, refl, refl, tt) })
 
 abbrev shown : ℕ → Bool → List ℕ → List ℕ → List ℕ
-shown level on r id = rendered id on (flagsFor level on r)
+shown level on r id = rendered 20 id on (flagsFor level on r)
 
 shows-it : (u : TagUnit) (room : ℕ) (level : ℕ) (on : Bool) {bytes : List ℕ} → Shows u room → u .battery ≡ level → protected (u .protection) ≡ on
     → shown level on (u .identifier .r) (u .identifier .id) ≡ bytes

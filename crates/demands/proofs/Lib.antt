@@ -48,3 +48,4 @@ pub mod WaitingUnseen
 pub mod WaitingKey
 pub mod RecoveryExample
 pub mod Demands
+pub mod FrameRead

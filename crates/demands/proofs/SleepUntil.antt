@@ -94,7 +94,7 @@ framed small stands bytes = cond small (refuses 6) (cond stands (gives bytes) (r
 
 abbrev frameBytes : TagUnit → List ℕ
 frameBytes u =
-    rendered (u .identifier .id) (protected (u .protection)) (flagsFor (u .battery) (protected (u .protection)) (u .identifier .r))
+    rendered 20 (u .identifier .id) (protected (u .protection)) (flagsFor (u .battery) (protected (u .protection)) (u .identifier .r))
 
 frame-made : (room : ℕ) (u : TagUnit) → wellFormed u ≡ true
     → step (calls frame room) u .result ≡ framed (ltb room answerRoom) (stands u) (frameBytes u)

@@ -29,6 +29,7 @@ use Rattle.demands.specs.Refused.{Refused}
 use Rattle.demands.specs.RefusalOrder.{RefusalOrder}
 use Rattle.demands.specs.RecordLines.{WellFormedExactly}
 use Rattle.demands.specs.Events.{Events}
+use Rattle.demands.specs.FrameRead.{FrameRead}
 use Rattle.demands.specs.Nonces.{Demand2Nonces}
 use Rattle.demands.specs.Recovery.{Demand2Recovery}
 use Rattle.demands.specs.RecoveryExample.{RecoveryExample}
@@ -50,6 +51,7 @@ pub record Demands : Type 0 where
   pub accepted : Accepted
   pub refused : Refused
   pub events : Events
+  pub framesRead : FrameRead
   pub nonces : Demand2Nonces
   pub recovered : Demand2Recovery
   pub recoveredOnce : RecoveryExample

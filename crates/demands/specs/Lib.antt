@@ -18,3 +18,4 @@ pub mod SleepUntil
 pub mod Edges
 pub mod RecoveryExample
 pub mod Demands
+pub mod FrameRead

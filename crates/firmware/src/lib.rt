@@ -5,6 +5,7 @@ ghost use mathlib.Core.Bool.{not};
 ghost use lib.Dec.{eqb};
 ghost use lib.ListN.{length};
 ghost use Rattle.primitives.specs.Calls.{hashed, authenticated, encrypted, decrypted};
+ghost use Rattle.desk.specs.Exported.{partsRead, partsReadWithR, ExportsReading};
 ghost use Rattle.tag.specs.Calls.{newUnit, call, elapsed as elapsedOf};
 ghost use Rattle.tag.specs.Calls as of;
 ghost use Rattle.stored.specs.Record.{decoded};
@@ -172,6 +173,22 @@ pub extern "C" fn tag_frame(bytes: &mut [u8], answer: &mut [u8]) -> u64
     let after = step.unit;
     let reply = step.reply;
     finish::finish(bytes, after, reply)
+}
+
+// Reads a frame, of this tag or another: its identifier, protection, flags byte, in 23 bytes. Refusals: 6 for fewer, 8.
+#[no_mangle]
+pub extern "C" fn tag_frame_read(frame: &[u8], parts: &mut [u8]) -> u64
+    ensures { λ code. ⌜ ExportsReading (partsRead (now (frame .entry)) (length (now (parts .entry)))) code (now (parts .entry)) (now (parts .exit)) ⌝ }
+{
+    desk::read(frame, parts)
+}
+
+// The same with its r, and the battery level behind them, in 24 bytes. Refusals: 6 for fewer, 8, 1, 8.
+#[no_mangle]
+pub extern "C" fn tag_frame_read_with_r(frame: &[u8], r: &[u8], parts: &mut [u8]) -> u64
+    ensures { λ code. ⌜ ExportsReading (partsReadWithR (now (r .entry)) (now (frame .entry)) (length (now (parts .entry)))) code (now (parts .entry)) (now (parts .exit)) ⌝ }
+{
+    desk::read_with_r(frame, r, parts)
 }
 
 // SHA-256 of a message of up to 65,535 bytes, into 32 bytes. Refusal: 7.

@@ -5,9 +5,11 @@ ghost use Prim.Native.Nat.{_≤_};
 ghost use lib.ListN.{length};
 ghost use lib.Bits.{bitXor};
 ghost use Rattle.laws.specs.Answer.{Wrote};
-ghost use Rattle.sizes.specs.Sizes.{highestBattery, answerRoom};
+ghost use Rattle.sizes.specs.Sizes.{highestBattery, identifierSize, answerRoom};
 ghost use Rattle.frame.specs.Frame.{lengthByte, rendered, flagsBeforeXor, flagsMask, flagsFor};
 use sizes::IDENTIFIER_SIZE;
+
+pub mod reader;
 
 const HEAD_SIZE: usize = 8;
 
@@ -56,7 +58,7 @@ pub fn flags_for(battery: u8, on: bool, r: [u8; IDENTIFIER_SIZE]) -> Flags
 }
 
 fn length_byte(flags: Flags) -> u8
-    ensures { λ r. ⌜ r ≡ lengthByte flags ⌝ }
+    ensures { λ r. ⌜ r ≡ lengthByte identifierSize flags ⌝ }
 {
     match flags {
         Flags::LeftOut => 0x18,
@@ -74,7 +76,7 @@ fn kind_byte(on: bool) -> u8
 // Writes a frame of an identifier, the protection bit and the flags byte. Gives the number of bytes written.
 pub fn render(id: [u8; IDENTIFIER_SIZE], on: bool, flags: Flags, answer: &mut [u8]) -> usize
     requires { ⌜ answerRoom ≤ length (now answer) ⌝ }
-    ensures { λ r. ⌜ Wrote (rendered id on flags) r (now (answer .entry)) (now (answer .exit)) ⌝ }
+    ensures { λ r. ⌜ Wrote (rendered identifierSize id on flags) r (now (answer .entry)) (now (answer .exit)) ⌝ }
 {
     let size = length_byte(flags);
     let kind = kind_byte(on);

@@ -24,7 +24,7 @@ fn digit(d: u8) -> u8
 }
 
 // Bytes in hexadecimal, two digits each.
-fn hex(out: &mut [u8], at: usize, bytes: &[u8]) -> usize
+pub fn hex(out: &mut [u8], at: usize, bytes: &[u8]) -> usize
     requires { ⌜ at + 2 * length (now bytes) ≤ length (now out) ⌝ }
     ensures { λ r. ⌜ PutsText (hexOf (now (bytes .entry))) at (now (out .entry)) r (now (out .exit)) ⌝ }
 {

@@ -72,7 +72,7 @@ unfoldable pub showing : TagUnit → Outcome
 showing u =
     cond (stands u)
     (giving
-    (rendered (u .identifier .id) (protected (u .protection))
+    (rendered identifierSize (u .identifier .id) (protected (u .protection))
     (flagsFor (u .battery) (protected (u .protection)) (u .identifier .r)))
     u)
     (refusing 5 u)

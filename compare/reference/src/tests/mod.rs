@@ -1,5 +1,6 @@
 mod edges;
 mod errors;
+mod frames;
 mod record;
 mod refusals;
 mod replays;
