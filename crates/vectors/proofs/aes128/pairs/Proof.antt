@@ -1,4 +1,4 @@
--- `cipher::pairs` is safe and ends: the measure is the pairs that are left.
+-- `vectors::aes128::pairs` is safe and ends: the measure is the pairs that are left.
 use Prim.Native.Nat.{_-_, _≤_}
 use native.Mathlib.Omega.{arith}
 use borrow.Author.Needs.{needs}

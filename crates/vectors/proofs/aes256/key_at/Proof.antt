@@ -1,4 +1,4 @@
--- `cipher256::key_at` is safe and ends: the measure is the bytes that are left.
+-- `vectors::aes256::key_at` is safe and ends: the measure is the bytes that are left.
 use Prim.Native.Nat.{_-_, _≤_}
 use native.Mathlib.Omega.{arith}
 use native.Mathlib.Nat.{mod-lt}

@@ -1,4 +1,4 @@
--- `cipher256::keys_of_ones` is safe and ends: the measure is the keys that are left.
+-- `vectors::aes256::keys_of_ones` is safe and ends: the measure is the keys that are left.
 use Prim.Native.Nat.{_-_, _≤_}
 use native.Mathlib.Omega.{arith}
 use borrow.Author.Needs.{needs}
