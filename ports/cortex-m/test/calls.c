@@ -145,6 +145,25 @@ static void draw_request(struct argument *a) {
     if (one_in(40)) a->at[a->bytes++] = 0;
 }
 
+/* A frame, and texts near one: any identifier, kind and flags byte; now and then a wrong byte, cut short or too long. */
+static void draw_frame(struct argument *a) {
+    static const uint8_t head[] = {0x02, 0x01, 0x06, TAG_IDENTIFIER_SIZE + 4, 0x16, 0xAA, 0xFE, 0x40};
+    uint32_t flagged = below(2);
+    memcpy(a->at, head, sizeof head);
+    random_bytes(a->at + sizeof head, TAG_IDENTIFIER_SIZE + 2);
+    a->at[3] = (uint8_t)(a->at[3] + flagged);
+    a->at[7] = (uint8_t)(a->at[7] + (flagged && one_in(2)));
+    a->bytes = sizeof head + TAG_IDENTIFIER_SIZE + flagged;
+    if (one_in(6)) a->at[below((uint32_t)a->bytes)] ^= (uint8_t)(1 << below(8));
+    if (one_in(10)) a->bytes = below((uint32_t)a->bytes);
+    if (one_in(12)) a->bytes++;
+}
+
+static void draw_parts(struct argument *a) {
+    a->bytes = one_in(10) ? below(TAG_PARTS_WITH_R_SIZE) : TAG_PARTS_WITH_R_SIZE + below(3);
+    random_bytes(a->at, (uint32_t)a->bytes);
+}
+
 /* An answer: random bytes, so that those which a call leaves are seen to stay. */
 static void draw_answer(struct argument *a) {
     a->bytes = one_in(10) ? below(TAG_ANSWER_ROOM) : TAG_ANSWER_ROOM + below(4);
@@ -171,7 +190,7 @@ static void draw_tenths(struct argument *a) {
 }
 
 static const struct kind record = {draw_record, 1}, lent_record = {draw_record, 0}, answer = {draw_answer, 1}, digest = {draw_digest, 1}, answer_block = {draw_block, 1}, nonce = {draw_nonce, 0},
-                         request = {draw_request, 0}, account_key = {draw_account_key, 0}, identifier = {draw_identifier, 0}, message = {draw_message, 0},
+                         request = {draw_request, 0}, account_key = {draw_account_key, 0}, identifier = {draw_identifier, 0}, frame_text = {draw_frame, 0}, parts = {draw_parts, 1}, message = {draw_message, 0},
                          block = {draw_block, 0}, power = {draw_power, 0}, small = {draw_small, 0}, on_or_off = {draw_switch, 0}, tenths = {draw_tenths, 0};
 
 /* ---- the exports: name, how often (of the sum), its arguments in C, and the kind of each. One more export is one more line. */
@@ -191,6 +210,8 @@ static const struct kind record = {draw_record, 1}, lent_record = {draw_record, 
     E(tag_disconnect, 20, (S(0)), &record)                                                \
     E(tag_lend_identifier, 24, (S(0), S(1), S(2)), &record, &identifier, &identifier)     \
     E(tag_frame, 24, (S(0), S(1)), &record, &answer)                                      \
+    E(tag_frame_read, 16, (S(0), S(1)), &frame_text, &parts)                              \
+    E(tag_frame_read_with_r, 16, (S(0), S(1), S(2)), &frame_text, &identifier, &parts)    \
     E(tag_sha256, 10, (S(0), S(1)), &message, &digest)                                    \
     E(tag_hmac_sha256, 10, (S(0), S(1), S(2)), &message, &message, &digest)               \
     E(tag_aes128_encrypt, 10, (S(0), S(1), S(2)), &block, &block, &answer_block)          \
