@@ -124,10 +124,12 @@ pub fn recover_key(u: TagUnit, h: Head, additional: &[u8]) -> Verdict
     let recovery = identity::derived_key(u, signing::RECOVERY);
     let n = u.nonce;
     let nonce = n.bytes;
-    if !identity::tagged(recovery, nonce, h, additional) {
+    let right = identity::tagged(recovery, nonce, h, additional);
+    let agreed = consents(u.consent, u.pairing);
+    if !right {
         return answering::denied(u, Refusal::NotAuthenticated);
     }
-    if !consents(u.consent, u.pairing) {
+    if !agreed {
         return answering::denied(u, Refusal::NoConsent);
     }
     let k = u.identity;

@@ -45,13 +45,16 @@ tagged-requires c κs =
     let start = derived-key-at .before .before .before .before .before .before .before in
     (derived-key-at .derived-key .ensures .fits, omega (arith, start .good .1 .0, start .pre .sized))
 
+consents-requires : tie.Need-consents-requires
+consents-requires c κs = search needs
+
 denied-requires-2 : tie.Need-denied-requires-2
 denied-requires-2 c κs = search needs
 
 returns-2 : tie.Need-returns-2
 returns-2 c =
     let if1-at = c .before in
-    let tagged-at = if1-at .before in
+    let tagged-at = if1-at .before .before in
     let derived-key-at = tagged-at .before .before .before in
     let found-at = derived-key-at .before .before in
     let owner-place-at = found-at .before .before in
@@ -61,18 +64,15 @@ returns-2 c =
     (ap (λ (k : List ℕ). tagged k (start .args .u .nonce .bytes) (request (start .args .h) (start .args .additional .now))) (sym (derived-key-at .derived-key .ensures .keyIs))
     ∙ refuted (tagged-at .tagged .ensures) (if1-at .if1 .taken)))
 
-consents-requires : tie.Need-consents-requires
-consents-requires c κs = search needs
-
 denied-requires-3 : tie.Need-denied-requires-3
 denied-requires-3 c κs = search needs
 
 returns-3 : tie.Need-returns-3
 returns-3 c =
     let if2-at = c .before in
-    let consents-at = if2-at .before in
-    let if1-at = consents-at .before in
-    let tagged-at = if1-at .before in
+    let if1-at = if2-at .before in
+    let consents-at = if1-at .before in
+    let tagged-at = consents-at .before in
     let derived-key-at = tagged-at .before .before .before in
     let found-at = derived-key-at .before .before in
     let owner-place-at = found-at .before .before in
@@ -104,9 +104,9 @@ returns-4 c =
     let encrypted-key-at = c .before .before in
     let key-at-at = encrypted-key-at .before in
     let if2-at = key-at-at .before .before .before in
-    let consents-at = if2-at .before in
-    let if1-at = consents-at .before in
-    let tagged-at = if1-at .before in
+    let if1-at = if2-at .before in
+    let consents-at = if1-at .before in
+    let tagged-at = consents-at .before in
     let derived-key-at = tagged-at .before .before .before in
     let found-at = derived-key-at .before .before in
     let owner-place-at = found-at .before .before in
@@ -128,9 +128,9 @@ recover-key-spec =
     returns
     derived-key-requires
     tagged-requires
+    consents-requires
     denied-requires-2
     returns-2
-    consents-requires
     denied-requires-3
     returns-3
     key-at-requires
