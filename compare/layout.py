@@ -2,7 +2,7 @@
 """Checks that include/tag.h and the definitions name the same sizes, places, refusals and statuses, no fewer and no more.
 
 A size has the definition's name (nonceSize is TAG_NONCE_SIZE). A place has the names of the field that the innermost group stands for and of the field in it
-(TAG_NONCE_HELD_AT), or of the field alone where it stands in the unit itself or is a group's only one (TAG_CONSENT_AT, TAG_PROTECTION_AT).
+(TAG_NONCES_LIVE_AT), or of the field alone where it stands in the unit itself or is a group's only one (TAG_CONSENT_AT, TAG_PROTECTION_AT).
 The numbers that a table of docs/INTEGRATION.md gives for constants are held to the header too.
 """
 import pathlib
@@ -24,9 +24,9 @@ def header_name(name):
 
 
 def numbers(text):
-    """The definitions of a file that are sums, products and powers of numbers and of each other, by name."""
+    """The definitions of a file that are sums, differences, products and powers of numbers and of each other, by name."""
     found = {}
-    for name, value in re.findall(r"^(\w+) =\s+((?:[\w+*^ ]|\n    )+)$", text, re.M):
+    for name, value in re.findall(r"^(\w+) =\s+((?:[\w+*^ -]|\n    )+)$", text, re.M):
         found[name] = " ".join(value.split()).replace("^", "**")
     return found
 
@@ -66,7 +66,7 @@ def places(group, called, at, text, sizes):
 
 def main():
     sizes = numbers(read(SIZES))
-    public = [n for n in sizes if n.endswith("Size") or n in ("answerRoom", "mostKeys")]
+    public = [n for n in sizes if n.endswith("Size") or n in ("answerRoom", "mostKeys", "mostNonces")]
     text = "".join(map(read, PARTS))
     everything = {**sizes, **numbers(text)}
     wanted = {header_name(n): value(n, everything) for n in [*public, "recordSize", "version"]}

@@ -15,7 +15,7 @@
  * a pointer that is not null. Refusals are tested in the order in which a call's comment lists them.
  *
  * The host's duties:
- *   - a nonce is random, and never lent twice;
+ *   - a nonce is random, and never lent twice (the last 16 are refused);
  *   - tag_elapsed is called with the tenths that passed, before any other call that follows them, and at least as often as the host wants
  *     the stop notice of a ring that ends;
  *   - the bytes that tag_write, tag_button and tag_elapsed give are sent as notifications; those of a write before the write is answered;
@@ -45,6 +45,7 @@ extern "C" {
 #define TAG_DIGEST_SIZE 32
 #define TAG_BLOCK_SIZE 16 /* of an AES key too */
 #define TAG_LONGEST_MESSAGE 65535
+#define TAG_MOST_NONCES 16
 #define TAG_MOST_KEYS 5
 
 #define TAG_REFUSAL_BASE 256
@@ -77,17 +78,18 @@ extern "C" {
 
 /* The record: where each field starts, right behind the one before it. Numbers are big-endian; a flag is 0 or 1; what is absent is zero.
  * The version is raised by every change of the layout; it is never 0x00 or 0xFF. */
-#define TAG_VERSION 0x02
+#define TAG_VERSION 0x03
 #define TAG_VERSION_AT 0 /* TAG_VERSION */
 #define TAG_SETTINGS_POWER_AT (TAG_VERSION_AT + 1) /* 4 bytes, two's complement */
 #define TAG_SETTINGS_COMPONENTS_AT (TAG_SETTINGS_POWER_AT + 4)
 #define TAG_SETTINGS_SELECTABLE_AT (TAG_SETTINGS_COMPONENTS_AT + 1)
 #define TAG_CLOCK_SECONDS_AT (TAG_SETTINGS_SELECTABLE_AT + 1) /* 4 bytes */
 #define TAG_CLOCK_TENTH_AT (TAG_CLOCK_SECONDS_AT + 4)
-#define TAG_NONCE_HELD_AT (TAG_CLOCK_TENTH_AT + 1)
-#define TAG_NONCE_LIVE_AT (TAG_NONCE_HELD_AT + 1)
-#define TAG_NONCE_BYTES_AT (TAG_NONCE_LIVE_AT + 1)
-#define TAG_ACCOUNTS_COUNT_AT (TAG_NONCE_BYTES_AT + TAG_NONCE_SIZE) /* 8 bytes: how many keys are held */
+#define TAG_NONCES_COUNT_AT (TAG_CLOCK_TENTH_AT + 1) /* how many issued nonces are held */
+#define TAG_NONCES_LIVE_AT (TAG_NONCES_COUNT_AT + 1) /* whether the newest is live */
+#define TAG_NONCES_NEWEST_AT (TAG_NONCES_LIVE_AT + 1)
+#define TAG_NONCES_EARLIER_AT (TAG_NONCES_NEWEST_AT + TAG_NONCE_SIZE) /* those before it, newest first */
+#define TAG_ACCOUNTS_COUNT_AT (TAG_NONCES_EARLIER_AT + (TAG_MOST_NONCES - 1) * TAG_NONCE_SIZE) /* 8 bytes: how many keys are held */
 #define TAG_OWNER_KIND_AT (TAG_ACCOUNTS_COUNT_AT + 8) /* 0 nobody, 1 a place */
 #define TAG_OWNER_PLACE_AT (TAG_OWNER_KIND_AT + 1) /* 8 bytes: the owner's place among the keys */
 #define TAG_ACCOUNTS_KEYS_AT (TAG_OWNER_PLACE_AT + 8) /* TAG_MOST_KEYS keys */
@@ -114,7 +116,8 @@ extern "C" {
  * Refusals: 2 for a record of another length, 1 for settings out of range; the bytes then stay as they were. Gives 0. */
 uint64_t tag_new(uint8_t *record, uint64_t record_bytes, int32_t power, uint32_t components, uint32_t selectable);
 
-/* Read: issues the lent nonce of TAG_NONCE_SIZE bytes, which replaces any other. Answer: 0x01 and the nonce. Refusals: 6, 2, 3. Gives 9. */
+/* Read: issues the lent nonce of TAG_NONCE_SIZE bytes, which replaces any other. Answer: 0x01 and the nonce. Refusals: 6, 2, and 3 for another
+ * length or for a nonce that is one of the last TAG_MOST_NONCES issued, live or spent, a clear (0x03) included. Gives 9. */
 uint64_t tag_read(uint8_t *record, uint64_t record_bytes, const uint8_t *nonce, uint64_t nonce_bytes, uint8_t *answer, uint64_t answer_bytes);
 
 /* Write: a request of the phone's. Answer: what to notify. Refusals: 6, 2, and then, with the nonce spent, 0x81 for its shape, 0x80,

@@ -18,10 +18,11 @@ import shutil
 import subprocess
 import sys
 
-# The first six are there for what they put into STORED.
+# The first seven are there for what they put into STORED.
 import disconnecting
 import frames
 import matching
+import nonces
 import provisioning
 import refusals
 import ringing

@@ -134,34 +134,36 @@ def account_keys_that_differ_in_one_byte():
 
 @stored
 def nonces_that_differ_in_one_byte():
-    """A nonce that differs from the last one in its first or in its last byte only is another nonce."""
+    """A nonce that differs from issued ones in its first or in its last byte only is another nonce."""
     s = Session()
     s.key(KEY_A)
-    first = ANY_TAG
     for place in (0, 7, 3):
+        first = bytes([place]) + ANY_TAG[:6] + bytes([place])
         s.read(first)
         s.read(first, expect=3)
         other = changed(first, place)
         s.read(other)
         s.write(request(KEY_A, first, 1), expect=0x80)
         s.read(other, expect=3)
-        s.read(first)
+        s.read(first, expect=3)
+        third = changed(other, 2)
+        s.read(third)
         s.write(request(KEY_A, other, 1), expect=0x80)
-        s.read(other)
-        s.write(request(KEY_A, other, 1))
+        fourth = changed(third, place)
+        s.read(fourth)
+        s.write(request(KEY_A, fourth, 1))
     return s
 
 
 @stored
 def ring_nonces_that_differ_in_one_byte():
-    """The notices of two rings whose nonces differ in one byte."""
+    """The notices of rings whose nonces differ in one byte."""
     s = owned()
-    for place in (0, 7):
-        for nonce in (ANY_TAG, changed(ANY_TAG, place)):
-            s.read(nonce)
-            s.write(request(s.sub(2), nonce, 5, bytes([1, 0, 5, 0])))
-            s.read()
-            s.elapsed(7, ends=5)
+    for nonce in (ANY_TAG, changed(ANY_TAG, 0), changed(ANY_TAG, 7)):
+        s.read(nonce)
+        s.write(request(s.sub(2), nonce, 5, bytes([1, 0, 5, 0])))
+        s.read()
+        s.elapsed(7, ends=5)
     return s
 
 

@@ -18,8 +18,21 @@ def random_session(seed):
     def chance(of):
         return dice.random() < of
 
+    # A random source that repeats: so many values, one after the other or in any order.
+    values = [dice.randbytes(8) for _ in range(dice.randrange(1, 21))] if chance(0.3) else []
+    in_turn = chance(0.6)
+    lent = [0]
+
+    def repeated():
+        lent[0] += 1
+        return values[lent[0] % len(values)] if in_turn else dice.choice(values)
+
     def nonce():
-        if chance(0.06):
+        if values and chance(0.6):
+            s.read(repeated(), None)
+        elif chance(0.05) and tag.nonces:
+            s.read(dice.choice(tag.nonces), None)
+        elif chance(0.06):
             s.read(dice.choice([tag.nonce or bytes(8), bytes(8), dice.randbytes(7), dice.randbytes(9), b""]), None)
         elif chance(0.94):
             s.read(dice.randbytes(8), None)

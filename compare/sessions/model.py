@@ -38,7 +38,7 @@ class Model:
             raise Refused(1)
         self.power, self.components, self.volume = power, components, volume
         self.time = 0  # tenths, modulo 2^32 seconds
-        self.nonce, self.live = None, False
+        self.nonces, self.live = [], False  # the last sixteen, the newest first
         self.pairing, self.battery = False, 0
         self.clear()
 
@@ -49,6 +49,10 @@ class Model:
         self.protection = None  # the skip flag
         self.consent = 0
         self.lent = None  # r, identifier, window
+
+    @property
+    def nonce(self):
+        return self.nonces[0] if self.nonces else None
 
     @property
     def seconds(self):
@@ -71,9 +75,9 @@ class Model:
         return response(self.sub_key(2), nonce, 5, bytes([status, mask]) + left.to_bytes(2, "big"))
 
     def read(self, nonce):
-        if len(nonce) != 8 or nonce == self.nonce:
+        if len(nonce) != 8 or nonce in self.nonces:
             raise Refused(3)
-        self.nonce, self.live = nonce, True
+        self.nonces, self.live = [nonce] + self.nonces[:15], True
         return b"\x01" + nonce
 
     def write(self, data):

@@ -121,7 +121,7 @@ def refused_82_press_before_the_key():
 
 @stored
 def refused_03_nonces():
-    """Sizes, the last issued nonce live and spent, and a nonce of zeros; a refused read leaves the nonce live."""
+    """Sizes, an issued nonce live and spent, and a nonce of zeros; a refused read leaves the nonce live."""
     s = Session()
     s.key(KEY_A)
     s.read(bytes(8))
@@ -132,10 +132,13 @@ def refused_03_nonces():
     s.read(bytes(8), expect=3)
     s.write(request(KEY_A, bytes(8), 1), expect=0x80)
     s.read(b"\x01" * 8)
-    s.read(bytes(8))
+    s.read(bytes(8), expect=3)
+    s.read(b"\x02" * 8)
     s.write(request(KEY_A, b"\x01" * 8, 1), expect=0x80)
-    s.read(b"\x01" * 8)
-    s.write(request(KEY_A, b"\x01" * 8, 1))
+    s.read(b"\x01" * 8, expect=3)
+    s.read(b"\x03" * 8)
+    s.read(b"\x03" * 8, expect=3)
+    s.write(request(KEY_A, b"\x03" * 8, 1))
     return s
 
 

@@ -2,7 +2,7 @@
 //! the record, and reads its own frame. It plays the phone too, which makes the requests with the library's own primitives.
 use std::fs;
 
-const RECORD_SIZE: usize = 248;
+const RECORD_SIZE: usize = 368;
 const ANSWER_ROOM: usize = 42;
 const IDENTITY_HELD_AT: usize = 119;
 const WAITING_HELD_AT: usize = 152;

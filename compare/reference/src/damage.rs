@@ -2,7 +2,7 @@
 //! but well formed. Everything is said of the unit or of a field by its name; only `record` knows the bytes.
 
 use crate::record::{encode, fields, SIZE, VERSION};
-use crate::tag::{new_unit, window_of, Protection, Sound, Unit, SLOTS};
+use crate::tag::{new_unit, window_of, Protection, Sound, Unit, NONCES, SLOTS};
 
 /// A record: what is special about it, the well formed unit that it was made from, its bytes.
 pub struct Sample {
@@ -43,8 +43,10 @@ pub fn quiet() -> Unit {
     unit.identity = [0x1d; 32];
     unit.has_waiting = true;
     unit.waiting = [0x3a; 32];
-    unit.has_nonce = true;
-    unit.nonce = [0x0e; 8];
+    unit.nonce_count = NONCES as u32;
+    for place in 0..NONCES {
+        unit.nonces[place] = [0xe0 + place as u8; 8];
+    }
     unit.live = true;
     unit.protection = Protection::On { skip: true };
     unit.consent = 600;
@@ -227,13 +229,36 @@ fn waits() -> Unit {
     unit
 }
 
-/// "The last issued nonce, if any, and whether it is live."
+/// So many nonces issued.
+fn issued(count: usize) -> Unit {
+    let mut unit = fresh();
+    unit.nonce_count = count as u32;
+    unit.nonces[..count].copy_from_slice(&quiet().nonces[..count]);
+    unit
+}
+
+/// "A well-formed record holds up to 16, all distinct; a fresh one none." "live without a nonce"
 fn nonce(s: &mut Samples) {
-    s.broken("no-nonce-first-byte", fresh(), |u| u.nonce[0] = 1);
-    s.broken("no-nonce-last-byte", fresh(), |u| u.nonce[7] = 1);
+    for count in [17, 255] {
+        s.broken(&format!("nonce-count-{count}"), issued(NONCES), |u| u.nonce_count = count);
+    }
+    for (one, other) in [(0, 1), (0, 2), (0, 15), (1, 14), (7, 8), (14, 15)] {
+        s.broken(&format!("nonces-{one}-and-{other}-equal"), quiet(), |u| u.nonces[other] = u.nonces[one]);
+    }
+    s.broken("two-nonces-of-zeros", fresh(), |u| u.nonce_count = 2);
+    for count in [0, 1, 15] {
+        s.broken(&format!("nonce-{count}-not-counted-first-byte"), issued(count), |u| u.nonces[count][0] = 1);
+        s.broken(&format!("nonce-{count}-not-counted-last-byte"), issued(count), |u| u.nonces[count][7] = 1);
+    }
+    s.broken("last-nonce-room-not-zero", issued(2), |u| u.nonces[15][7] = 0x80);
+    s.broken("one-nonce-less-counted", issued(16), |u| u.nonce_count = 15);
     s.broken("live-without-nonce", fresh(), |u| u.live = true);
-    s.right("nonce-of-zeros", fresh(), |u| u.has_nonce = true);
-    s.right("live-nonce-of-zeros", fresh(), |u| { u.has_nonce = true; u.live = true });
+    s.right("nonce-of-zeros", fresh(), |u| u.nonce_count = 1);
+    s.right("live-nonce-of-zeros", fresh(), |u| { u.nonce_count = 1; u.live = true });
+    s.right("nonce-of-zeros-behind-others", issued(2), |u| u.nonce_count = 3);
+    s.right("sixteen-nonces", issued(16), |u| u.live = true);
+    s.right("nonces-that-differ-in-the-first-byte", issued(2), |u| { u.nonces[1] = u.nonces[0]; u.nonces[1][0] ^= 1 });
+    s.right("nonces-that-differ-in-the-last-byte", issued(2), |u| { u.nonces[1] = u.nonces[0]; u.nonces[1][7] ^= 1 });
     s.right("nonce-spent", quiet(), |u| u.live = false);
 }
 
@@ -270,9 +295,10 @@ fn sound(s: &mut Samples) {
     }
     s.right("6000-tenths-left", full(), |_| ());
     s.right("1-tenth-left", full(), |u| u.sound = Sound::Ringing { mask: 5, volume: 3, left: 1 });
-    s.right("ringing-without-a-last-nonce", full(), |u| { u.has_nonce = false; u.live = false; u.nonce = [0; 8] });
+    s.right("ringing-without-a-last-nonce", full(), |u| { u.nonce_count = 0; u.live = false; u.nonces = [[0; 8]; NONCES] });
     s.right("ring-nonce-of-zeros", full(), |u| u.ring_nonce = [0; 8]);
-    s.right("ring-nonce-is-the-last", full(), |u| u.ring_nonce = u.nonce);
+    s.right("ring-nonce-is-the-last", full(), |u| u.ring_nonce = u.nonces[0]);
+    s.right("ring-nonce-is-the-oldest", full(), |u| u.ring_nonce = u.nonces[15]);
 }
 
 fn quiet_without_parts() -> Unit {
@@ -338,7 +364,7 @@ fn identifier(s: &mut Samples) {
 /// Flags that are neither 0 nor 1: where a thing is held, what any odd and what any non-zero number might pass for; where it isn't, what any
 /// even number might.
 fn flags(s: &mut Samples) {
-    for field in ["nonce-held", "nonce-live", "owner-kind", "identity-held", "waiting-held", "sound-kind", "pairing", "identifier-held"] {
+    for field in ["nonces-live", "owner-kind", "identity-held", "waiting-held", "sound-kind", "pairing", "identifier-held"] {
         s.field(full(), field, &[3]);
         s.field(full(), field, &[255]);
         s.field(fresh(), field, &[2]);

@@ -1,9 +1,9 @@
 //! The unit as a record of bytes: the fields of include/tag.h in their order, written anew from its comments.
 
-use crate::tag::{Protection, Sound, Unit, SLOTS};
+use crate::tag::{Protection, Sound, Unit, NONCES, SLOTS};
 
-pub const VERSION: u8 = 2;
-pub const SIZE: usize = 248;
+pub const VERSION: u8 = 3;
+pub const SIZE: usize = 368;
 
 /// The fields in the record's order, each with its name in the header, in small letters.
 pub fn fields(u: &Unit) -> Vec<(&'static str, Vec<u8>)> {
@@ -22,9 +22,9 @@ pub fn fields(u: &Unit) -> Vec<(&'static str, Vec<u8>)> {
         ("settings-selectable", vec![u.selectable as u8]),
         ("clock-seconds", u.seconds.to_be_bytes().to_vec()),
         ("clock-tenth", vec![u.tenth as u8]),
-        ("nonce-held", vec![u.has_nonce as u8]),
-        ("nonce-live", vec![u.live as u8]),
-        ("nonce-bytes", u.nonce.to_vec()),
+        ("nonces-count", vec![u.nonce_count as u8]),
+        ("nonces-live", vec![u.live as u8]),
+        ("nonces-bytes", u.nonces.concat()),
         ("accounts-count", u.key_count.to_be_bytes().to_vec()),
         ("owner-kind", vec![u.has_owner as u8]),
         ("owner-place", u.owner.to_be_bytes().to_vec()),
@@ -98,7 +98,9 @@ pub fn decode(b: &[u8]) -> Option<Unit> {
     let (components, selectable) = (rest.byte() as u32, rest.byte() as u32);
     let seconds = u32::from_be_bytes(rest.bytes());
     let tenth = rest.byte() as u32;
-    let (has_nonce, live, nonce) = (rest.flag()?, rest.flag()?, rest.bytes());
+    let (nonce_count, live) = (rest.byte() as u32, rest.flag()?);
+    let mut nonces = [[0; 8]; NONCES];
+    nonces.iter_mut().for_each(|nonce| *nonce = rest.bytes());
     let key_count = u64::from_be_bytes(rest.bytes());
     let (has_owner, owner) = (rest.flag()?, u64::from_be_bytes(rest.bytes()));
     let mut keys = [[0; 16]; SLOTS];
@@ -127,9 +129,9 @@ pub fn decode(b: &[u8]) -> Option<Unit> {
         selectable,
         seconds,
         tenth,
-        has_nonce,
+        nonce_count,
         live,
-        nonce,
+        nonces,
         key_count,
         keys,
         has_owner,

@@ -16,6 +16,8 @@ pub const NO_ROOM: u8 = 6;
 pub const ROOM: usize = 42;
 /// Keys that a unit can hold.
 pub const SLOTS: usize = 5;
+/// Issued nonces that a unit remembers.
+pub const NONCES: usize = 16;
 /// Tenths of consent after a press.
 pub const CONSENT: u32 = 600;
 /// The longest ring, in tenths.
@@ -51,8 +53,9 @@ pub struct Unit {
     /// The identity key that waits for the connection to end.
     pub has_waiting: bool,
     pub waiting: [u8; 32],
-    pub has_nonce: bool,
-    pub nonce: [u8; 8],
+    /// The last issued nonces, the newest first; only that one can be live.
+    pub nonce_count: u32,
+    pub nonces: [[u8; 8]; NONCES],
     pub live: bool,
     pub sound: Sound,
     pub ring_nonce: [u8; 8],
@@ -97,8 +100,8 @@ impl Unit {
             identity: [0; 32],
             has_waiting: false,
             waiting: [0; 32],
-            has_nonce: false,
-            nonce: [0; 8],
+            nonce_count: 0,
+            nonces: [[0; 8]; NONCES],
             live: false,
             sound: Sound::Silent,
             ring_nonce: [0; 8],
@@ -162,8 +165,24 @@ impl Unit {
         } else if self.waiting != [0; 32] {
             return false;
         }
-        // 5. Nonce.
-        if !self.has_nonce && (self.nonce != [0; 8] || self.live) {
+        // 5. Nonces.
+        if self.nonce_count > NONCES as u32 {
+            return false;
+        }
+        let count = self.nonce_count as usize;
+        for i in 0..count {
+            for j in 0..i {
+                if self.nonces[i] == self.nonces[j] {
+                    return false;
+                }
+            }
+        }
+        for i in count..NONCES {
+            if self.nonces[i] != [0; 8] {
+                return false;
+            }
+        }
+        if self.live && count == 0 {
             return false;
         }
         // 6. Sound.
@@ -211,6 +230,10 @@ impl Unit {
 
     fn held_keys(&self) -> &[[u8; 16]] {
         &self.keys[..self.key_count as usize]
+    }
+
+    fn issued(&self) -> &[[u8; 8]] {
+        &self.nonces[..self.nonce_count as usize]
     }
 
     fn owner_key(&self) -> Option<[u8; 16]> {
@@ -342,11 +365,15 @@ pub fn read(unit: &mut Unit, nonce: &[u8], answer: &mut [u8]) -> Result<usize, u
     if !unit.well_formed() {
         return Err(NOT_WELL_FORMED);
     }
-    if nonce.len() != 8 || (unit.has_nonce && unit.nonce[..] == *nonce) {
+    if nonce.len() != 8 || unit.issued().iter().any(|old| old[..] == *nonce) {
         return Err(BAD_NONCE);
     }
-    unit.has_nonce = true;
-    unit.nonce.copy_from_slice(nonce);
+    // It comes first; of seventeen, the oldest goes.
+    let mut issued = unit.issued().to_vec();
+    issued.insert(0, nonce.try_into().unwrap());
+    issued.truncate(NONCES);
+    unit.nonce_count = issued.len() as u32;
+    unit.nonces[..issued.len()].copy_from_slice(&issued);
     unit.live = true;
     let mut bytes = vec![0x01];
     bytes.extend_from_slice(nonce);
@@ -388,7 +415,7 @@ pub fn write(unit: &mut Unit, data: &[u8], answer: &mut [u8]) -> Result<usize, u
     if !was_live {
         return Err(NOT_AUTHENTICATED);
     }
-    let nonce = unit.nonce;
+    let nonce = unit.nonces[0];
     let tag: [u8; 8] = data[2..10].try_into().unwrap();
     let additional = &data[10..];
     let tag_is_for = |key: &[u8]| request_tag(key, &nonce, id, length, additional) == tag;
@@ -454,8 +481,8 @@ pub fn write(unit: &mut Unit, data: &[u8], answer: &mut [u8]) -> Result<usize, u
             *unit = Unit::fresh(old.power, old.components, old.selectable);
             unit.seconds = old.seconds;
             unit.tenth = old.tenth;
-            unit.has_nonce = old.has_nonce;
-            unit.nonce = old.nonce;
+            unit.nonce_count = old.nonce_count;
+            unit.nonces = old.nonces;
             unit.live = false;
             unit.battery = old.battery;
             unit.pairing = old.pairing;

@@ -39,7 +39,7 @@ fn some_write(rng: &mut Random, record: &[u8]) -> Vec<u8> {
     let Some(unit) = decode(record) else { return rng.bytes(12) };
     let id = some_id(rng, &unit);
     let sub = |n: u8| reference::primitives::sha256(&[&unit.identity[..], &[n]].concat())[..8].to_vec();
-    let proof = reference::primitives::sha256(&[&unit.identity[..], &unit.nonce[..]].concat())[..8].to_vec();
+    let proof = reference::primitives::sha256(&[&unit.identity[..], &unit.nonces[0][..]].concat())[..8].to_vec();
     let slots = SLOTS as u64;
     let held = unit.keys[rng.below((unit.key_count).clamp(1, slots)) as usize].to_vec();
     let owner = if unit.owner < slots { unit.keys[unit.owner as usize].to_vec() } else { held.clone() };
@@ -68,7 +68,7 @@ fn some_write(rng: &mut Random, record: &[u8]) -> Vec<u8> {
         data[i] ^= 1 << rng.below(8);
     }
     let size = 8 + data.len() as u8;
-    let mut tag = tag::request_tag(&key, &unit.nonce, id, size, &data);
+    let mut tag = tag::request_tag(&key, &unit.nonces[0], id, size, &data);
     if rng.one_in(10) {
         tag[rng.below(8) as usize] ^= 1;
     }
@@ -88,8 +88,8 @@ fn some_call(rng: &mut Random, record: &[u8]) -> Call {
         0 if rng.one_in(12) => Call::New(rng.below(140) as i32 - 110, rng.below(5) as u32, rng.below(3) as u32),
         0..=9 => {
             let n = if rng.one_in(12) { rng.below(12) as usize } else { 8 };
-            let fresh = rng.bytes(n);
-            Call::Read(unit.filter(|_| rng.one_in(15)).map_or(fresh, |u| u.nonce.to_vec()))
+            // Of few values, so that nonces come back after any number of others.
+            Call::Read(if rng.one_in(3) { rng.bytes(n) } else { vec![rng.below(60) as u8; n] })
         }
         10..=23 => Call::Write(some_write(rng, record)),
         24..=25 => Call::Button,

@@ -38,7 +38,7 @@ under none judge = notAuthenticated
 
 -- the nonce that a request is judged with, and that signs its answer
 abbrev pub lastNonce : TagUnit → List ℕ
-lastNonce u = u .nonce .bytes
+lastNonce u = u .nonces .newest
 
 -- whether the request's tag is the one that this key makes with this nonce
 unfoldable pub tagged : List ℕ → List ℕ → Request → Bool

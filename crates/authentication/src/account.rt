@@ -54,8 +54,8 @@ pub fn used_key(u: TagUnit, h: Head, additional: &[u8]) -> Found
     requires { ⌜ (wellFormed u ≡ true) × (length (now additional) ≤ mostLength) ⌝ }
     ensures { λ r. ⌜ Finds (usedKey u (request h (now (additional .entry)))) (heldKeys (u .accounts)) r ⌝ }
 {
-    let n = u.nonce;
-    let nonce = n.bytes;
+    let n = u.nonces;
+    let nonce = n.newest;
     let a = u.accounts;
     let keys = a.keys;
     first_of(&keys, a.count, nonce, h, additional)
@@ -92,8 +92,8 @@ pub fn signed_by_owner(u: TagUnit, h: Head, additional: &[u8]) -> Found
     let Found::At(place) = found else {
         return Found::Nowhere;
     };
-    let n = u.nonce;
-    let nonce = n.bytes;
+    let n = u.nonces;
+    let nonce = n.newest;
     let key = key_at(a, place);
     if tagged(&key, nonce, h, additional) {
         return Found::At(place);

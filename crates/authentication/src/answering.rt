@@ -79,8 +79,8 @@ pub fn conclude(u: TagUnit, v: Verdict, id: u8, answer: &mut [u8]) -> Step
     match ruling {
         Ruling::Denied(refusal) => end::refuse(u, refusal),
         Ruling::Granted => {
-            let n = u.nonce;
-            let nonce = n.bytes;
+            let n = u.nonces;
+            let nonce = n.newest;
             let key = v.key;
             let payload = v.payload;
             let after = v.unit;

@@ -47,8 +47,8 @@ pub fn proves(u: TagUnit, proof: &[u8]) -> bool
 {
     let in_force = u.identity;
     let identity = in_force.bytes;
-    let n = u.nonce;
-    let nonce = n.bytes;
+    let n = u.nonces;
+    let nonce = n.newest;
     let made = signing::key_proof(identity, nonce);
     octets::same(&made, proof)
 }

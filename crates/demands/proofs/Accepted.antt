@@ -2,7 +2,7 @@
 -- every check by what the unit permits: the tag is the key's own, the proof is the held key's own, the first key that makes the tag is the
 -- one meant. What the definitions then give is, opened, what the literal terms say.
 use Prim.Native.Nat.{ℕ, zero, suc, _+_, _/_, _%_, _≤_, _<_}
-use mathlib.Core.Path.{_≡_, refl, ap, _∙_}
+use mathlib.Core.Path.{_≡_, refl, sym, ap, _∙_}
 use mathlib.Core.Bool.{Bool, true, false, cond, _&&_, _||_}
 use mathlib.Core.List.{List, [], _∷_, _++_}
 use mathlib.Core.Logic.{_⊎_, inl, inr}
@@ -13,9 +13,9 @@ use lib.ListN.{length, getD, drop, length-append, length-drop}
 use lib.Seq.{drop-at, take-append-le, drop-append-le}
 use borrow.Author.Tests.{le-leb, lt-ltb, eq-eqb, ne-eqb}
 use Rattle.laws.specs.Bytes.{bigEndian, sameBytes}
-use Rattle.laws.proofs.Flags.{or-left, or-right}
+use Rattle.laws.proofs.Flags.{or-left, or-right, fails}
 use Rattle.laws.proofs.Same.{same-refl, differ-same}
-use Rattle.tables.specs.Rows.{firstThat}
+use Rattle.tables.specs.Rows.{among, firstThat}
 use Rattle.wire.specs.Signing.{requestTag, keyProof, derivedKey, recoveryKey, ringKey, protectionKey, answerTag, signed, ringNotice}
 use Rattle.wire.specs.Shape.{Request, sizeLegal, oneOf, legalSizes}
 use Rattle.wire.specs.KeyBlocks.{decryptedKey, encryptedKey}
@@ -23,7 +23,7 @@ use Rattle.unit.specs.declared.TagUnit.{TagUnit}
 use Rattle.unit.specs.declared.Sound.{Sound}
 use Rattle.unit.specs.declared.Protection.{Protection}
 use Rattle.unit.specs.WellFormed.{wellFormed, heldKeys, ownerKey}
-use Rattle.unit.specs.Change.{spent, silenced, withNonce, withAccounts, withSound, withProtection}
+use Rattle.unit.specs.Change.{spent, silenced, withNonces, withAccounts, withSound, withProtection}
 use Rattle.unit.specs.Outcome.{giving}
 use Rattle.unit.proofs.Lines.{lines, held-count}
 use Rattle.authentication.specs.Judgement.{accepts, tagged, usedKey, signedByOwner}
@@ -31,30 +31,49 @@ use Rattle.provisioning.specs.Provisioning.{ownedBy, awaiting, cleared, readPar
 use Rattle.ringing.specs.Ringing.{skips, ring, rung, readSound}
 use Rattle.ringing.specs.Protecting.{protect, unprotect}
 use Rattle.requests.specs.Write.{byId, needsKey}
-use Rattle.tag.specs.Own.{issuing, nonceFits}
+use Rattle.nonces.specs.Nonces.{issuedNonces, nonceFits, withIssued}
+use Rattle.nonces.proofs.Lines.{issued-count}
+use Rattle.tag.specs.Own.{issuing}
 use Rattle.tag.specs.Calls.{read, own, guarded, call, Act, calls, act}
 use Rattle.demands.specs.History.{step, writes}
-use Rattle.demands.specs.Spelled.{keyAtPlace, OwnedWith, NonceSpent, OnlySpends}
-use Rattle.demands.specs.Accepted.{Serves, Open, sent, answer, First, ownerBit, standing, OwnerKnown, Awaits, Cleared, startNotice, stopNotice, RingLegal, ringBytes, Rings, Stopped, Protects, Accepted}
-use Rattle.demands.proofs.Spelling.{parameters-are, timeout-is, meant, ring-legal, stop-legal, key-at, owner-at, claimed-owner, claimed-count, claimed-keys, owner-bit, standing-is, sound-state}
+use Rattle.demands.specs.Spelled.{keyAtPlace, nonceAtPlace, OwnedWith, NonceSpent, OnlySpends}
+use Rattle.demands.specs.Accepted.{Serves, Open, sent, answer, First, ownerBit, standing, OwnerKnown, Awaits, Cleared, startNotice, stopNotice, RingLegal, ringBytes, Rings, Stopped, Protects, Issued, Accepted}
+use Rattle.demands.proofs.RecordLines.{key-at, nonce-at, among-found}
+use Rattle.demands.proofs.Spelling.{parameters-are, timeout-is, meant, ring-legal, stop-legal, owner-at, claimed-owner, claimed-count, claimed-keys, owner-bit, standing-is, sound-state}
 use Rattle.demands.proofs.Judging.{opened, length-requestTag, length-keyProof, requestOf, judged-as, own-tag}
 
 -- an act whose outcome is known is served with what that outcome gives
 pub serves : {a : Act} {u v : TagUnit} {answer : List ℕ} {Left : TagUnit → Type 0} → step a u ≡ giving answer v → Left v → Serves a u answer Left
 serves e l = record { answered = rw e; left = rw e l }
 
--- A read of a nonce that is not the last issued
+-- A read of a nonce that is not one of those held
 pub reads : (u : TagUnit) (room : ℕ) (nonce : List ℕ) → wellFormed u ≡ true → 42 ≤ room → length nonce ≡ 8
-    → u .nonce .held && sameBytes (u .nonce .bytes) nonce ≡ false
-    → step (calls (read nonce) room) u ≡ giving (0x01 ∷ nonce) (withNonce (record { held = true; live = true; bytes = nonce }) u)
+    → among nonce (issuedNonces (u .nonces)) ≡ false
+    → step (calls (read nonce) room) u ≡ giving (0x01 ∷ nonce) (withNonces (withIssued nonce (u .nonces)) u)
 unfolding act call guarded own issuing nonceFits
 reads u room nonce right fits long other =
     opened u room (issuing nonce u) right fits
     ∙ rw (eq-eqb (length nonce) 8 long, other)
 
-not-last : (held : Bool) (last nonce : List ℕ) → (held ≡ true → last ≡ nonce → ⊥) → held && sameBytes last nonce ≡ false
-not-last true last nonce other = differ-same last nonce (other refl)
-not-last false last nonce other = refl
+not-held : (u : TagUnit) (nonce : List ℕ) → ((p : ℕ) → p < u .nonces .count → nonceAtPlace u p ≡ nonce → ⊥)
+    → among nonce (issuedNonces (u .nonces)) ≡ false
+not-held u nonce other =
+    fails _
+    (λ h.
+    let found = among-found nonce (issuedNonces (u .nonces)) h in
+    let below : found .0 < u .nonces .count = omega (arith, found .1, issued-count (u .nonces)) in
+    other (found .0) below (sym (found .2 ∙ nonce-at u (found .0) below)))
+
+issued-so : (nonce : List ℕ) (u : TagUnit) → Issued nonce u (withNonces (withIssued nonce (u .nonces)) u)
+issued-so nonce u =
+    record {
+      isNewest = refl;
+      isLive = refl;
+      oneMore = λ few. rw (lt-ltb (u .nonces .count) 16 few);
+      noMore = λ full. rw full;
+      othersBehind = refl;
+      rest = (refl, refl, tt, refl, refl, refl, refl, refl, refl, refl, refl, refl, refl);
+    }
 
 -- The first key of a list that passes a test, where every one before it fails
 first-found : (test : List ℕ → Bool) (keys : List (List ℕ)) (p : ℕ) → p < length keys
@@ -67,24 +86,24 @@ first-found test (k ∷ ks) (suc p) short before here =
 
 -- The request that a key signs with the unit's nonce
 abbrev asked : TagUnit → ℕ → ℕ → List ℕ → List ℕ → Request
-asked u id size key additional = requestOf id size (requestTag key (u .nonce .bytes) id size additional) additional
+asked u id size key additional = requestOf id size (requestTag key (u .nonces .newest) id size additional) additional
 
 first-tagged : (u : TagUnit) (id p : ℕ) → First u id p → usedKey (spent u) (asked u id 8 (keyAtPlace u p) []) ≡ some (keyAtPlace u p)
 unfolding usedKey tagged requestTag
 first-tagged u id p (held, first) =
     let key = keyAtPlace u p in
     let q = asked u id 8 key [] in
-    let made : (k : List ℕ) → List ℕ = λ k. requestTag k (u .nonce .bytes) id 8 [] in
-    first-found (λ k. tagged k (u .nonce .bytes) q) (heldKeys (u .accounts)) p (omega (arith, held-count (u .accounts)))
+    let made : (k : List ℕ) → List ℕ = λ k. requestTag k (u .nonces .newest) id 8 [] in
+    first-found (λ k. tagged k (u .nonces .newest) q) (heldKeys (u .accounts)) p (omega (arith, held-count (u .accounts)))
     (λ j h. rw (key-at u j (omega arith)) (differ-same (made (keyAtPlace u j)) (made key) (first j h)))
-    (rw (key-at u p held) (own-tag key (u .nonce .bytes) id 8 []))
+    (rw (key-at u p held) (own-tag key (u .nonces .newest) id 8 []))
     ∙ ap some (key-at u p held)
 
 -- The owner's key, where it signed the request
 owner-tagged : (u : TagUnit) (id size : ℕ) (key additional : List ℕ) → ownerKey (u .accounts) ≡ some key
     → signedByOwner (spent u) (asked u id size key additional) ≡ some key
 unfolding signedByOwner
-owner-tagged u id size key additional e = rw (e, own-tag key (u .nonce .bytes) id size additional)
+owner-tagged u id size key additional e = rw (e, own-tag key (u .nonces .newest) id size additional)
 
 -- Where the size is known, a write that a key signed comes to its judgement
 signed-as : (u : TagUnit) (room id size : ℕ) (key additional : List ℕ) {after : TagUnit} {answer : List ℕ} {Left : TagUnit → Type 0}
@@ -95,13 +114,13 @@ unfolding requestTag
 signed-as u room id size key additional sized ready legal there judgement left =
     rw sized
     (serves
-    (judged-as id size (asked u id size key additional .tag) additional (length-requestTag key (u .nonce .bytes) id size additional)
+    (judged-as id size (asked u id size key additional .tag) additional (length-requestTag key (u .nonces .newest) id size additional)
     sized ready legal there judgement)
     left)
 
 -- What stays in each unit that a write leaves
-spends : (u v : TagUnit) → v .nonce ≡ spent u .nonce → NonceSpent u v
-spends u v e = record { held = rw e; bytes = rw e; dead = rw e }
+spends : (u v : TagUnit) → v .nonces ≡ spent u .nonces → NonceSpent u v
+spends u v e = record { count = rw e; newest = rw e; earlier = rw e; dead = rw e }
 
 only-spends : (u : TagUnit) → OnlySpends u (spent u)
 only-spends u = record { nonceSpent = spends u _ refl; rest = (refl, refl, tt, refl, refl, refl, refl, refl, refl, refl, refl, refl, refl) }
@@ -156,7 +175,7 @@ stopped : (u : TagUnit) → Stopped u (silenced (spent u))
 stopped u = record { nonceSpent = spends u _ refl; silent = (refl, refl); rest = (refl, refl, tt, refl, refl, refl, tt, tt, refl, refl, refl, refl, refl) }
 
 rings-as : (mask timeout volume : ℕ) (u : TagUnit)
-    → Rings mask timeout volume u (withSound (Sound.Ringing mask (cond (eqb (u .settings .selectable) 0) 0 volume) timeout) (u .nonce .bytes) (spent u))
+    → Rings mask timeout volume u (withSound (Sound.Ringing mask (cond (eqb (u .settings .selectable) 0) 0 volume) timeout) (u .nonces .newest) (spent u))
 rings-as mask timeout volume u =
     record { nonceSpent = spends u _ refl; soundIs = refl; nonceKept = refl; rest = (refl, refl, tt, refl, refl, refl, tt, tt, refl, refl, refl, refl, refl) }
 
@@ -174,13 +193,13 @@ few {u} ready = lines u (ready .formed) .settings .components
 
 -- A ring and a stop that pass, with whichever tag
 abbrev PassesGuards : TagUnit → List ℕ → List ℕ → Type 0
-PassesGuards u mark a = skips (u .protection) || tagged (ringKey (u .identity .bytes)) (u .nonce .bytes) (requestOf 0x05 12 mark a) ≡ true
+PassesGuards u mark a = skips (u .protection) || tagged (ringKey (u .identity .bytes)) (u .nonces .newest) (requestOf 0x05 12 mark a) ≡ true
 
 ring-judged : (u : TagUnit) (mark : List ℕ) (asked mask timeout volume : ℕ) → u .settings .components ≤ 3
     → RingLegal (u .settings .components) asked mask timeout volume → PassesGuards u mark (ringBytes asked timeout volume)
     → ring (spent u) (requestOf 0x05 12 mark (ringBytes asked timeout volume))
-    ≡ accepts (withSound (Sound.Ringing mask (cond (eqb (u .settings .selectable) 0) 0 volume) timeout) (u .nonce .bytes) (spent u))
-    (startNotice u (u .nonce .bytes) 0 mask timeout)
+    ≡ accepts (withSound (Sound.Ringing mask (cond (eqb (u .settings .selectable) 0) 0 volume) timeout) (u .nonces .newest) (spent u))
+    (startNotice u (u .nonces .newest) 0 mask timeout)
 unfolding ring rung ringNotice signed answerTag derivedKey bigEndian
 ring-judged u mark asked mask timeout volume low legal passes =
     let m = meant (u .settings) asked mask ((timeout / 256) ∷ (timeout % 256) ∷ volume ∷ []) low (legal .means) in
@@ -190,7 +209,7 @@ ring-judged u mark asked mask timeout volume low legal passes =
 
 stop-judged : (u : TagUnit) (mark : List ℕ) (high low volume : ℕ) → u .settings .components ≤ 3 → volume ≤ 3
     → PassesGuards u mark (0 ∷ high ∷ low ∷ volume ∷ [])
-    → ring (spent u) (requestOf 0x05 12 mark (0 ∷ high ∷ low ∷ volume ∷ [])) ≡ accepts (silenced (spent u)) (stopNotice u (u .nonce .bytes) 4)
+    → ring (spent u) (requestOf 0x05 12 mark (0 ∷ high ∷ low ∷ volume ∷ [])) ≡ accepts (silenced (spent u)) (stopNotice u (u .nonces .newest) 4)
 unfolding ring rung ringNotice signed answerTag derivedKey bigEndian
 stop-judged u mark high low volume few quiet passes = rw (passes, stop-legal (u .settings) high low volume few quiet)
 
@@ -221,38 +240,37 @@ unfolding byId sizeLegal oneOf legalSizes readParameters setKey mayReplace clear
 accepted =
     record {
       nonceRead = λ u room lent right fits long other.
-          serves (reads u room lent right fits long (not-last (u .nonce .held) (u .nonce .bytes) lent other))
-          (record { nonceIs = refl; rest = (refl, refl, tt, refl, refl, refl, refl, refl, refl, refl, refl, refl, refl) });
+          serves (reads u room lent right fits long (not-held u lent other)) (issued-so lent u);
       parametersRead = λ u room p ready first.
           signed-as u room 0x00 8 (keyAtPlace u p) [] refl ready refl refl
           (rw (first-tagged u 0x00 p first, parameters-are u)) (only-spends u);
       stateRead = λ u room p ready first. serves-state u room p ready first (owner-known u (ready .formed) p (first .0));
       keySet = λ u room key C ready owner none n. serves-key u room key C ready owner none n (awaits u key C);
       keyReplaced = λ u room key C ready owner held n.
-          let proof = keyProof (u .identity .bytes) (u .nonce .bytes) in
-          let sized = proven-sized C proof n (length-keyProof (u .identity .bytes) (u .nonce .bytes)) in
+          let proof = keyProof (u .identity .bytes) (u .nonces .newest) in
+          let sized = proven-sized C proof n (length-keyProof (u .identity .bytes) (u .nonces .newest)) in
           signed-as u room 0x02 48 key (C ++ proof) sized ready refl refl
           (rw (owner-tagged u 0x02 48 key (C ++ proof) (owner-at u key (ready .formed) owner), held, drop-at C proof 32 n, same-refl proof))
           (awaits-first u key C proof n);
       keyCleared = λ u room key ready owner held.
-          let proof = keyProof (u .identity .bytes) (u .nonce .bytes) in
-          let sized = ap (λ (n : ℕ). 8 + n) (length-keyProof (u .identity .bytes) (u .nonce .bytes)) in
+          let proof = keyProof (u .identity .bytes) (u .nonces .newest) in
+          let sized = ap (λ (n : ℕ). 8 + n) (length-keyProof (u .identity .bytes) (u .nonces .newest)) in
           signed-as u room 0x03 16 key proof sized ready refl held
           (rw (owner-tagged u 0x03 16 key proof (owner-at u key (ready .formed) owner), same-refl proof))
           (clears u);
       keyRecovered = λ u room key ready owner held consent.
           let by = recoveryKey (u .identity .bytes) in
           signed-as u room 0x04 8 by [] refl ready refl held
-          (rw (owner-at u key (ready .formed) owner, own-tag by (u .nonce .bytes) 0x04 8 [], consenting (u .consent) (u .pairing) consent))
+          (rw (owner-at u key (ready .formed) owner, own-tag by (u .nonces .newest) 0x04 8 [], consenting (u .consent) (u .pairing) consent))
           (only-spends u);
       rings = λ u room asked mask timeout volume ready held legal.
           let key = ringKey (u .identity .bytes) in
-          let passes = or-right (skips (u .protection)) (own-tag key (u .nonce .bytes) 0x05 12 (ringBytes asked timeout volume)) in
+          let passes = or-right (skips (u .protection)) (own-tag key (u .nonces .newest) 0x05 12 (ringBytes asked timeout volume)) in
           signed-as u room 0x05 12 key (ringBytes asked timeout volume) refl ready refl held
           (ring-judged u _ asked mask timeout volume (few ready) legal passes) (rings-as mask timeout volume u);
       stops = λ u room high low volume ready held quiet.
           let key = ringKey (u .identity .bytes) in
-          let passes = or-right (skips (u .protection)) (own-tag key (u .nonce .bytes) 0x05 12 (0 ∷ high ∷ low ∷ volume ∷ [])) in
+          let passes = or-right (skips (u .protection)) (own-tag key (u .nonces .newest) 0x05 12 (0 ∷ high ∷ low ∷ volume ∷ [])) in
           signed-as u room 0x05 12 key (0 ∷ high ∷ low ∷ volume ∷ []) refl ready refl held
           (stop-judged u _ high low volume (few ready) quiet passes) (stopped u);
       skipRings = λ u room asked mask timeout volume tag ready held skip eight legal.
@@ -266,18 +284,18 @@ accepted =
       soundRead = λ u room ready held.
           let key = ringKey (u .identity .bytes) in
           signed-as u room 0x06 8 key [] refl ready refl held
-          (rw (own-tag key (u .nonce .bytes) 0x06 8 [], sound-state u (lines u (ready .formed)))) (only-spends u);
+          (rw (own-tag key (u .nonces .newest) 0x06 8 [], sound-state u (lines u (ready .formed)))) (only-spends u);
       protects = λ u room ready held.
           let key = protectionKey (u .identity .bytes) in
-          signed-as u room 0x07 8 key [] refl ready refl held (rw (own-tag key (u .nonce .bytes) 0x07 8 [])) (protects-as (Protection.On false) u);
+          signed-as u room 0x07 8 key [] refl ready refl held (rw (own-tag key (u .nonces .newest) 0x07 8 [])) (protects-as (Protection.On false) u);
       protectsFlagged = λ u room flag ready held low.
           let key = protectionKey (u .identity .bytes) in
           signed-as u room 0x07 9 key (flag ∷ []) refl ready refl held
-          (rw (own-tag key (u .nonce .bytes) 0x07 9 (flag ∷ []), le-leb flag 1 (omega arith))) (protects-as (Protection.On (eqb flag 1)) u);
+          (rw (own-tag key (u .nonces .newest) 0x07 9 (flag ∷ []), le-leb flag 1 (omega arith))) (protects-as (Protection.On (eqb flag 1)) u);
       unprotects = λ u room ready held.
           let key = protectionKey (u .identity .bytes) in
-          let proof = keyProof (u .identity .bytes) (u .nonce .bytes) in
-          let sized = ap (λ (n : ℕ). 8 + n) (length-keyProof (u .identity .bytes) (u .nonce .bytes)) in
+          let proof = keyProof (u .identity .bytes) (u .nonces .newest) in
+          let sized = ap (λ (n : ℕ). 8 + n) (length-keyProof (u .identity .bytes) (u .nonces .newest)) in
           signed-as u room 0x08 16 key proof sized ready refl held
-          (rw (own-tag key (u .nonce .bytes) 0x08 16 proof, same-refl proof)) (protects-as Protection.Off u);
+          (rw (own-tag key (u .nonces .newest) 0x08 16 proof, same-refl proof)) (protects-as Protection.Off u);
     }

@@ -1,5 +1,5 @@
--- What a call does to the nonce, for all kinds: a successful read makes its own live, a write that passes 6 and 2 leaves none live,
--- and every other call, refused ones too, leaves it as it is.
+-- What a call does to the nonces, for all kinds: a successful read issues its own, a write that passes 6 and 2 spends the newest, and every
+-- other call, refused ones too, leaves them as they are.
 use Prim.Native.Nat.{ℕ, _≤_}
 use mathlib.Core.Path.{_≡_, refl, ap, _∙_}
 use mathlib.Core.Bool.{true, false}
@@ -10,14 +10,14 @@ use Rattle.laws.proofs.Flags.{true-or-false}
 use Rattle.wire.specs.Signing.{version}
 use Rattle.wire.specs.Shape.{Request}
 use Rattle.unit.specs.declared.TagUnit.{TagUnit}
-use Rattle.unit.specs.declared.Nonce.{Nonce}
 use Rattle.sizes.specs.Sizes.{answerRoom}
-use Rattle.unit.specs.Change.{withNonce}
+use Rattle.unit.specs.Change.{withNonces}
 use Rattle.unit.specs.WellFormed.{wellFormed}
 use Rattle.unit.specs.Outcome.{Outcome, giving, refusing}
 use Rattle.authentication.specs.Judgement.{accepts}
 use Rattle.provisioning.specs.Provisioning.{cleared}
-use Rattle.tag.specs.Own.{nonceFits, issuing}
+use Rattle.nonces.specs.Nonces.{nonceFits, withIssued, spentNonces}
+use Rattle.tag.specs.Own.{issuing}
 use Rattle.tag.specs.Calls.{Written, read, write, accountKey, disconnect, own, Act, calls}
 use Rattle.demands.specs.History.{step}
 use Rattle.demands.specs.Nonces.{Succeeds, PassesGuards, passes, Issues, issues}
@@ -25,15 +25,13 @@ use Rattle.demands.proofs.Guards.{roomFor, ownOf, met, Met, barred, pas
 use Rattle.demands.proofs.WritesOnKeys.{Did, set, clear, recovered, other, Ended, turned, served, ends-written}
 use Rattle.demands.proofs.OtherCalls.{kind, Sorted, aRead, aWrite, aKey, aDisconnect, aside, sorted, Keeping, same, more, keeps, Disconnecting, nothingIn, keyIn, disconnects}
 
-abbrev pub issued : List ℕ → Nonce
-issued nonce = record { held = true; live = true; bytes = nonce }
-
 pub data Noncing : Act → TagUnit → Type 0 where
-  issue : {nonce : List ℕ} {room : ℕ} {u : TagUnit} → Succeeds (calls (read nonce) room) u → step (calls (read nonce) room) u .unit .nonce ≡ issued nonce
+  issue : {nonce : List ℕ} {room : ℕ} {u : TagUnit} → Succeeds (calls (read nonce) room) u → nonceFits (u .nonces) nonce ≡ true
+      → step (calls (read nonce) room) u .unit .nonces ≡ withIssued nonce (u .nonces)
       → Noncing (calls (read nonce) room) u
-  spend : {w : Written} {room : ℕ} {u : TagUnit} → PassesGuards (calls (write w) room) u → step (calls (write w) room) u .unit .nonce .live ≡ false
+  spend : {w : Written} {room : ℕ} {u : TagUnit} → PassesGuards (calls (write w) room) u → step (calls (write w) room) u .unit .nonces ≡ spentNonces (u .nonces)
       → Noncing (calls (write w) room) u
-  keep : {c : Act} {u : TagUnit} → (Issues c u → ⊥) → (PassesGuards c u → ⊥) → step c u .unit .nonce ≡ u .nonce → Noncing c u
+  keep : {c : Act} {u : TagUnit} → (Issues c u → ⊥) → (PassesGuards c u → ⊥) → step c u .unit .nonces ≡ u .nonces → Noncing c u
 
 issues-succeeds : {c : Act} {u : TagUnit} → Issues c u → Succeeds c u
 issues-succeeds (issues s) = s
@@ -41,7 +39,7 @@ issues-succeeds (issues s) = s
 passes-guards : {c : Act} {u : TagUnit} → PassesGuards c u → (answerRoom ≤ roomFor c) × (wellFormed u ≡ true)
 passes-guards (passes fits formed) = (fits, formed)
 
-issues-kind : {c : Act} {u : TagUnit} → Issues c u → kind c ≡ 0
+pub issues-kind : {c : Act} {u : TagUnit} → Issues c u → kind c ≡ 0
 issues-kind (issues s) = refl
 
 passes-kind : {c : Act} {u : TagUnit} → PassesGuards c u → kind c ≡ 1
@@ -50,35 +48,35 @@ passes-kind (passes fits formed) = refl
 -- A call that is barred leaves the nonce
 barred-keeps : (c : Act) (u : TagUnit) (n : ℕ) → step c u ≡ refusing n u → (answerRoom ≤ roomFor c → wellFormed u ≡ true → ⊥) → Noncing c u
 barred-keeps c u n e bars =
-    keep (λ i. not-both c u e (issues-succeeds i)) (λ p. bars (passes-guards p .0) (passes-guards p .1)) (ap (λ (o : Outcome). o .unit .nonce) e)
+    keep (λ i. not-both c u e (issues-succeeds i)) (λ p. bars (passes-guards p .0) (passes-guards p .1)) (ap (λ (o : Outcome). o .unit .nonces) e)
 
-did-nonce : {u v : TagUnit} {q : Request} {answer : List ℕ} → Did u q (accepts v answer) → v .nonce ≡ u .nonce
+did-nonce : {u v : TagUnit} {q : Request} {answer : List ℕ} → Did u q (accepts v answer) → v .nonces ≡ u .nonces
 unfolding cleared
 did-nonce (set key e o) = refl
 did-nonce (clear e) = refl
 did-nonce (recovered key e o) = refl
 did-nonce (other k a) = a .nonce
 
-written-spends : {u : TagUnit} {w : List ℕ} {o : Outcome} → Ended u w o → o .unit .nonce .live ≡ false
+written-spends : {u : TagUnit} {w : List ℕ} {o : Outcome} → Ended u w o → o .unit .nonces ≡ spentNonces (u .nonces)
 written-spends (turned n) = refl
-written-spends (served s l did) = ap (λ (n : Nonce). n .live) (did-nonce did)
+written-spends (served s l did) = did-nonce did
 
-kept-nonce : {key : List ℕ} {u : TagUnit} {o : Outcome} → Keeping key u o → o .unit .nonce ≡ u .nonce
+kept-nonce : {key : List ℕ} {u : TagUnit} {o : Outcome} → Keeping key u o → o .unit .nonces ≡ u .nonces
 kept-nonce same = refl
 kept-nonce (more n few) = refl
 
-disconnected-nonce : {u v : TagUnit} → Disconnecting u v → v .nonce ≡ u .nonce
+disconnected-nonce : {u v : TagUnit} → Disconnecting u v → v .nonces ≡ u .nonces
 disconnected-nonce (nothingIn none) = refl
 disconnected-nonce (keyIn held) = refl
 
 -- A call of another kind
-untouched : (c : Act) (u : TagUnit) → 2 ≤ kind c → ownOf c u .unit .nonce ≡ u .nonce → Noncing c u
+untouched : (c : Act) (u : TagUnit) → 2 ≤ kind c → ownOf c u .unit .nonces ≡ u .nonces → Noncing c u
 untouched c u t kept = go (met c u)
   where
     go : Met c u → Noncing c u
     go (barred n e bars) = barred-keeps c u n e bars
     go (passed fits formed e) =
-        keep (λ (i : Issues c u). omega (arith, issues-kind i)) (λ (p : PassesGuards c u). omega (arith, passes-kind p)) (ap (λ (o : Outcome). o .unit .nonce) e ∙ kept)
+        keep (λ (i : Issues c u). omega (arith, issues-kind i)) (λ (p : PassesGuards c u). omega (arith, passes-kind p)) (ap (λ (o : Outcome). o .unit .nonces) e ∙ kept)
 
 reading : (nonce : List ℕ) (room : ℕ) (u : TagUnit) → Noncing (calls (read nonce) room) u
 unfolding issuing own
@@ -87,17 +85,17 @@ reading nonce room u = go (met (calls (read nonce) room) u)
     c : Act
     c = calls (read nonce) room
 
-    fits-or-not : (nonceFits u nonce ≡ true) ⊎ (nonceFits u nonce ≡ false) → step c u ≡ issuing nonce u → Noncing c u
+    fits-or-not : (nonceFits (u .nonces) nonce ≡ true) ⊎ (nonceFits (u .nonces) nonce ≡ false) → step c u ≡ issuing nonce u → Noncing c u
     fits-or-not (inl f) e =
-        let given : step c u ≡ giving (version ∷ nonce) (withNonce (issued nonce) u) = e ∙ rw f in
-        issue (version ∷ nonce, ap (λ (o : Outcome). o .result) given) (ap (λ (o : Outcome). o .unit .nonce) given)
+        let given : step c u ≡ giving (version ∷ nonce) (withNonces (withIssued nonce (u .nonces)) u) = e ∙ rw f in
+        issue (version ∷ nonce, ap (λ (o : Outcome). o .result) given) f (ap (λ (o : Outcome). o .unit .nonces) given)
     fits-or-not (inr f) e =
         let refusal : step c u ≡ refusing 3 u = e ∙ rw f in
-        keep (λ i. not-both c u refusal (issues-succeeds i)) (λ (p : PassesGuards c u). omega (arith, passes-kind p)) (ap (λ (o : Outcome). o .unit .nonce) refusal)
+        keep (λ i. not-both c u refusal (issues-succeeds i)) (λ (p : PassesGuards c u). omega (arith, passes-kind p)) (ap (λ (o : Outcome). o .unit .nonces) refusal)
 
     go : Met c u → Noncing c u
     go (barred n e bars) = barred-keeps c u n e bars
-    go (passed fits formed e) = fits-or-not (true-or-false (nonceFits u nonce)) e
+    go (passed fits formed e) = fits-or-not (true-or-false (nonceFits (u .nonces) nonce)) e
 
 writing : (w : Written) (room : ℕ) (u : TagUnit) → Noncing (calls (write w) room) u
 unfolding own
@@ -105,7 +103,7 @@ writing w room u = go (met (calls (write w) room) u)
   where
     go : Met (calls (write w) room) u → Noncing (calls (write w) room) u
     go (barred n e bars) = barred-keeps (calls (write w) room) u n e bars
-    go (passed fits formed e) = spend (passes fits formed) (ap (λ (o : Outcome). o .unit .nonce .live) e ∙ written-spends (ends-written u (w .bytes)))
+    go (passed fits formed e) = spend (passes fits formed) (ap (λ (o : Outcome). o .unit .nonces) e ∙ written-spends (ends-written u (w .bytes)))
 
 by-kind : {c : Act} → Sorted c → (u : TagUnit) → Noncing c u
 unfolding own

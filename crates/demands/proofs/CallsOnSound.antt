@@ -22,7 +22,8 @@ use Rattle.unit.specs.Standing.{stands}
 use Rattle.unit.specs.Outcome.{Outcome, giving, refusing}
 use Rattle.frame.specs.Frame.{rendered}
 use Rattle.time.specs.Time.{tenths}
-use Rattle.tag.specs.Own.{nonceFits, issuing, pressed, showing, lending, charged, keeping, broughtIn as bringing, disconnected}
+use Rattle.nonces.specs.Nonces.{nonceFits}
+use Rattle.tag.specs.Own.{issuing, pressed, showing, lending, charged, keeping, broughtIn as bringing, disconnected}
 use Rattle.tag.specs.Calls.{Written, Call, read, write, button, pairing, battery, accountKey, disconnect, identifier, frame, own, Act, calls, waits}
 use Rattle.demands.specs.History.{step}
 use Rattle.demands.specs.Time.{noticed}
@@ -50,7 +51,7 @@ calm-refusal n u = record { leaves = search; quiet = refl }
 module _ (u : TagUnit) where
   read-calm : (nonce : List ℕ) → Calm u (issuing nonce u)
   unfolding issuing
-  read-calm nonce = tested (Calm u) (nonceFits u nonce) (λ e. record { leaves = search; quiet = refl }) (λ e. calm-refusal 3 u)
+  read-calm nonce = tested (Calm u) (nonceFits (u .nonces) nonce) (λ e. record { leaves = search; quiet = refl }) (λ e. calm-refusal 3 u)
 
   battery-calm : (level : ℕ) → Calm u (charged level u)
   unfolding charged

@@ -4,6 +4,7 @@ use Rattle.demands.proofs.Ends.{demand1}
 use Rattle.demands.proofs.Formed.{formed}
 use Rattle.demands.proofs.Accepted.{accepted}
 use Rattle.demands.proofs.Nonces.{nonces}
+use Rattle.demands.proofs.NonceRepeats.{nonce-repeats}
 use Rattle.demands.proofs.Recovery.{recovery}
 use Rattle.demands.proofs.RecoveryExample.{example}
 use Rattle.demands.proofs.WaitingKey.{waiting-key}
@@ -30,6 +31,7 @@ demands =
       events = events;
       framesRead = frame-read;
       nonces = nonces;
+      nonceRepeats = nonce-repeats;
       recovered = recovery;
       recoveredOnce = example;
       waitingKey = waiting-key;

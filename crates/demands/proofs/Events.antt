@@ -32,7 +32,7 @@ use Rattle.demands.specs.Spelled.{keyAtPlace}
 use Rattle.demands.specs.Accepted.{Serves, windowOf, stopNotice}
 use Rattle.demands.specs.Events.{PowerWithin, Fresh, Hushed, Consents, Keeps, BroughtIn, Lends, Same, Shows, masked, TenthPasses, Ticks, Events}
 use Rattle.demands.proofs.Judging.{opened}
-use Rattle.demands.proofs.Spelling.{key-at}
+use Rattle.demands.proofs.RecordLines.{key-at}
 use Rattle.demands.proofs.Accepted.{serves}
 
 -- A call without answer bytes on a well-formed unit does its own
@@ -56,7 +56,7 @@ fresh-is power components selectable =
     record {
       settingsAre = refl;
       clockIs = refl;
-      noNonce = refl;
+      noNonces = refl;
       noAccounts = refl;
       noIdentity = refl;
       noneWaits = refl;

@@ -19,7 +19,8 @@ use Rattle.unit.specs.Outcome.{Outcome, refusing, formed as guarded, answering}
 use Rattle.unit.specs.Standing.{stands}
 use Rattle.unit.proofs.Lines.{lines, waiting-owned}
 use Rattle.unit.proofs.Kept.{fresh-formed, issued-kept, consent-kept, silenced-kept, pairing-kept, battery-kept, accounts-kept, identity-kept, unawaited-kept, unlent-kept, lent-kept, window-clear}
-use Rattle.tag.specs.Own.{nonceFits, issuing, pressed, charged, keeping, broughtIn, disconnected, lending, showing}
+use Rattle.nonces.specs.Nonces.{nonceFits}
+use Rattle.tag.specs.Own.{issuing, pressed, charged, keeping, broughtIn, disconnected, lending, showing}
 use Rattle.tag.specs.Calls.{read, write, button, pairing, battery, accountKey, disconnect, identifier, frame, own, Act, calls, waits}
 use Rattle.demands.specs.History.{step}
 use Rattle.demands.specs.Formed.{Formed}
@@ -47,7 +48,7 @@ module _ (u : TagUnit) (w : wellFormed u ≡ true) where
 
   issuing-keeps : (nonce : List ℕ) → Keeps (issuing nonce u)
   unfolding issuing
-  issuing-keeps nonce = tested Keeps (nonceFits u nonce) (λ e. keeps (issued-kept u w true nonce)) (λ e. refusal)
+  issuing-keeps nonce = tested Keeps (nonceFits (u .nonces) nonce) (λ e. keeps (issued-kept u w nonce e)) (λ e. refusal)
 
   pressed-keeps : (s : Sound) → Keeps (pressed s u)
   unfolding pressed

@@ -20,7 +20,8 @@ use Rattle.unit.specs.Change.{fresh}
 use Rattle.unit.specs.Outcome.{Outcome}
 use Rattle.unit.proofs.Lines.{lines, AccountsLines, key-length, held-count}
 use Rattle.provisioning.specs.Provisioning.{cleared}
-use Rattle.tag.specs.Own.{nonceFits, issuing}
+use Rattle.nonces.specs.Nonces.{nonceFits}
+use Rattle.tag.specs.Own.{issuing}
 use Rattle.tag.specs.Calls.{own, Act}
 use Rattle.demands.specs.History.{step, after, Bytes, OfBytes, AllOfBytes}
 use Rattle.demands.proofs.Guards.{ownOf, met, Met, barred, passed}
@@ -51,7 +52,7 @@ keeping-filled {key} {u} (more n few) b s = pasted-bytes (u .accounts .keys) (u 
 
 read-filled : (nonce : List ℕ) (u : TagUnit) → Filled u → Filled (issuing nonce u .unit)
 unfolding issuing
-read-filled nonce u s = choose (λ (o : Outcome). Filled (o .unit)) (nonceFits u nonce) (λ e. s) (λ e. s)
+read-filled nonce u s = choose (λ (o : Outcome). Filled (o .unit)) (nonceFits (u .nonces) nonce) (λ e. s) (λ e. s)
 
 written-filled : {u : TagUnit} {w : List ℕ} {o : Outcome} → Ended u w o → Filled u → Filled (o .unit)
 unfolding cleared

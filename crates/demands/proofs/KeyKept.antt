@@ -22,7 +22,8 @@ use Rattle.unit.specs.Outcome.{Outcome}
 use Rattle.unit.proofs.Lines.{lines, AccountsLines, held-count}
 use Rattle.unit.proofs.Adding.{held-after}
 use Rattle.provisioning.specs.Provisioning.{cleared}
-use Rattle.tag.specs.Own.{nonceFits, issuing}
+use Rattle.nonces.specs.Nonces.{nonceFits}
+use Rattle.tag.specs.Own.{issuing}
 use Rattle.tag.specs.Calls.{Written, write, disconnect, own, Act, calls}
 use Rattle.demands.specs.History.{step, after}
 use Rattle.demands.specs.Among.{NoneIn, Accepts, accepts, BringsIn, bringsIn}
@@ -67,7 +68,7 @@ key-acts a {key} {u} w (more n few) =
 read-acts : (a : Act) (nonce : List ℕ) (u : TagUnit) → OnKeys a u (issuing nonce u .unit)
 unfolding issuing
 read-acts a nonce u =
-    choose (λ (o : Outcome). OnKeys a u (o .unit)) (nonceFits u nonce) (λ e. kept (λ key e. e) refl refl) (λ e. untouched a u)
+    choose (λ (o : Outcome). OnKeys a u (o .unit)) (nonceFits (u .nonces) nonce) (λ e. kept (λ key e. e) refl refl) (λ e. untouched a u)
 
 write-acts : (w : Written) (room : ℕ) (u : TagUnit) {o : Outcome} → Ended u (w .bytes) o → step (calls (write w) room) u ≡ o
     → OnKeys (calls (write w) room) u (o .unit)

@@ -24,6 +24,7 @@ pub mod WritesOnSound
 pub mod CallsOnSound
 pub mod CallsOnNonce
 pub mod Nonces
+pub mod NonceRepeats
 pub mod RingStarts
 pub mod RingRuns
 pub mod RingLasts

@@ -13,13 +13,14 @@ use Rattle.wire.specs.Shape.{parsed}
 use Rattle.authentication.specs.Judgement.{tagged}
 use Rattle.unit.specs.declared.TagUnit.{TagUnit}
 use Rattle.unit.specs.declared.Settings.{Settings}
-use Rattle.unit.specs.declared.Nonce.{Nonce}
+use Rattle.nonces.specs.declared.Nonces.{Nonces}
+use Rattle.nonces.specs.Nonces.{withIssued}
 use Rattle.unit.specs.Change.{fresh, spent}
 use Rattle.tag.specs.Calls.{Written, read, write, Act, calls}
 use Rattle.demands.specs.History.{step, after}
 use Rattle.demands.specs.Nonces.{Succeeds, PassesGuards, passes, Issues, issues, Quiet, Issue, MayTag, parameters, state, keySet, cleared, recovery, ring, soundState, protected, unprotected, Authenticated, tagged as tagged-with, skipped, Demand2Nonces}
 use Rattle.demands.proofs.WritesOnSound.{Authorised, signed-by, unasked, admitted}
-use Rattle.demands.proofs.CallsOnNonce.{issued, Noncing, issue, spend, keep, noncing}
+use Rattle.demands.proofs.CallsOnNonce.{Noncing, issue, spend, keep, noncing}
 use Rattle.demands.proofs.Histories.{after-append}
 
 -- One call earlier
@@ -36,7 +37,7 @@ earlier c u h nonce i =
     }
 
 abbrev Live : TagUnit → Type 0
-Live u = u .nonce .live ≡ true
+Live u = u .nonces .live ≡ true
 
 -- A nonce that is live was issued in the history, or before it
 abbrev Source : TagUnit → List Act → Type 0
@@ -45,10 +46,10 @@ Source u h = ((nonce : List ℕ) × Issue u h nonce) ⊎ (Live u × Quiet h u)
 before-call : (c : Act) (u : TagUnit) (h : List Act) → Noncing c u → Source (step c u .unit) h → Source u (c ∷ h)
 unfolding after
 before-call c u h n (inl (nonce, i)) = inl (nonce, earlier c u h nonce i)
-before-call c u h (issue {nonce} {room} s e) (inr (l, q)) =
+before-call c u h (issue {nonce} {room} s f e) (inr (l, q)) =
     inl (nonce, record { before = []; room = room; later = h; split = refl; succeeded = s; quiet = q })
-before-call c u h (spend p e) (inr (l, q)) = absurd (clash l e)
-before-call c u h (keep i p e) (inr (l, q)) = inr (sym (ap (λ (n : Nonce). n .live) e) ∙ l, (i, p, q))
+before-call c u h (spend p e) (inr (l, q)) = absurd (clash l (ap (λ (n : Nonces). n .live) e))
+before-call c u h (keep i p e) (inr (l, q)) = inr (sym (ap (λ (n : Nonces). n .live) e) ∙ l, (i, p, q))
 
 source : (h : List Act) (u : TagUnit) → Live (after h u) → Source u h
 unfolding after
@@ -56,33 +57,33 @@ source [] u l = inr (l, tt)
 source (c ∷ h) u l = before-call c u h (noncing c u) (source h (step c u .unit) l)
 
 -- A quiet history keeps the nonce
-quiet-call : (c : Act) (u : TagUnit) → Noncing c u → (Issues c u → ⊥) → (PassesGuards c u → ⊥) → step c u .unit .nonce ≡ u .nonce
-quiet-call c u (issue s e) i p = absurd (i (issues s))
+quiet-call : (c : Act) (u : TagUnit) → Noncing c u → (Issues c u → ⊥) → (PassesGuards c u → ⊥) → step c u .unit .nonces ≡ u .nonces
+quiet-call c u (issue s f e) i p = absurd (i (issues s))
 quiet-call c u (spend s e) i p = absurd (p s)
 quiet-call c u (keep j q e) i p = e
 
-quiet-keeps : (h : List Act) (u : TagUnit) → Quiet h u → after h u .nonce ≡ u .nonce
+quiet-keeps : (h : List Act) (u : TagUnit) → Quiet h u → after h u .nonces ≡ u .nonces
 unfolding after
 quiet-keeps [] u q = refl
 quiet-keeps (c ∷ h) u (i, p, q) = quiet-keeps h (step c u .unit) q ∙ quiet-call c u (noncing c u) i p
 
 read-issues : {nonce : List ℕ} {room : ℕ} {u : TagUnit} → Noncing (calls (read nonce) room) u → Succeeds (calls (read nonce) room) u
-    → step (calls (read nonce) room) u .unit .nonce ≡ issued nonce
-read-issues (issue s e) t = e
+    → step (calls (read nonce) room) u .unit .nonces ≡ withIssued nonce (u .nonces)
+read-issues (issue s f e) t = e
 read-issues (keep i p e) t = absurd (i (issues t))
 
-issue-holds : (u : TagUnit) (h : List Act) (nonce : List ℕ) → Issue u h nonce → after h u .nonce ≡ issued nonce
+issue-holds : (u : TagUnit) (h : List Act) (nonce : List ℕ) → (i : Issue u h nonce) → after h u .nonces ≡ withIssued nonce (after (i .before) u .nonces)
 unfolding after
 issue-holds u h nonce i =
     let then = after (i .before) u in
-    ap (λ (l : List Act). after l u .nonce) (i .split)
-    ∙ ap (λ (v : TagUnit). v .nonce) (after-append (i .before) (calls (read nonce) (i .room) ∷ i .later) u)
+    ap (λ (l : List Act). after l u .nonces) (i .split)
+    ∙ ap (λ (v : TagUnit). v .nonces) (after-append (i .before) (calls (read nonce) (i .room) ∷ i .later) u)
     ∙ quiet-keeps (i .later) (step (calls (read nonce) (i .room)) then .unit) (i .quiet)
     ∙ read-issues (noncing (calls (read nonce) (i .room)) then) (i .succeeded)
 
 write-spends : {w : Written} {room : ℕ} {u : TagUnit} → Noncing (calls (write w) room) u → PassesGuards (calls (write w) room) u
-    → step (calls (write w) room) u .unit .nonce .live ≡ false
-write-spends (spend s e) p = e
+    → step (calls (write w) room) u .unit .nonces .live ≡ false
+write-spends (spend s e) p = ap (λ (n : Nonces). n .live) e
 write-spends (keep i q e) p = absurd (q p)
 
 from-fresh : (s : Settings) (h : List Act) → Source (fresh s) h → (nonce : List ℕ) × Issue (fresh s) h nonce
@@ -102,12 +103,12 @@ before-spent protected = protected
 before-spent unprotected = unprotected
 
 -- The tag that a write was judged by, in the bytes of the write
-authenticated : (u : TagUnit) (w : List ℕ) → Authorised (spent u) (parsed w) → Authenticated u w (u .nonce .bytes)
+authenticated : (u : TagUnit) (w : List ℕ) → Authorised (spent u) (parsed w) → Authenticated u w (u .nonces .newest)
 unfolding parsed tagged requestTag
 authenticated u w (signed-by key may t) = tagged-with key (before-spent may) (sym (same-equal _ _ t))
 authenticated u w (unasked isRing skip) = skipped isRing skip
 
-accepted-with : (u : TagUnit) (w : Written) (room : ℕ) → Succeeds (calls (write w) room) u → Authenticated u (w .bytes) (u .nonce .bytes)
+accepted-with : (u : TagUnit) (w : Written) (room : ℕ) → Succeeds (calls (write w) room) u → Authenticated u (w .bytes) (u .nonces .newest)
 accepted-with u w room (answer, r) = authenticated u (w .bytes) (admitted (w .bytes) room u answer r .authorised)
 
 accepted-live : (u : TagUnit) (w : Written) (room : ℕ) → Succeeds (calls (write w) room) u → Live u
@@ -117,17 +118,17 @@ accepted-passes : (u : TagUnit) (w : Written) (room : ℕ) → Succeeds (calls (
 accepted-passes u w room (answer, r) = let a = admitted (w .bytes) room u answer r in passes (a .fits) (a .formed)
 
 -- Every accepted write was judged with the nonce of the last issue
-owned : (u : TagUnit) (h : List Act) (w : Written) (room : ℕ) → (after h u .nonce .live ≡ true → (nonce : List ℕ) × Issue u h nonce)
+owned : (u : TagUnit) (h : List Act) (w : Written) (room : ℕ) → (after h u .nonces .live ≡ true → (nonce : List ℕ) × Issue u h nonce)
     → Succeeds (calls (write w) room) (after h u)
     → (nonce : List ℕ) × Issue u h nonce × Authenticated (after h u) (w .bytes) nonce
 owned u h w room issued accepted =
     let then = after h u in
     let found = issued (accepted-live then w room accepted) in
-    let same : then .nonce .bytes ≡ found .0 = ap (λ (n : Nonce). n .bytes) (issue-holds u h (found .0) (found .1)) in
+    let same : then .nonces .newest ≡ found .0 = ap (λ (n : Nonces). n .newest) (issue-holds u h (found .0) (found .1)) in
     (found .0, found .1, subst (λ (n : List ℕ). Authenticated then (w .bytes) n) same (accepted-with then w room accepted))
 
 -- After a write that passed 6 and 2 a live nonce was issued since
-since : (u : TagUnit) (c : Act) (h : List Act) → step c u .unit .nonce .live ≡ false → after h (step c u .unit) .nonce .live ≡ true
+since : (u : TagUnit) (c : Act) (h : List Act) → step c u .unit .nonces .live ≡ false → after h (step c u .unit) .nonces .live ≡ true
     → (nonce : List ℕ) × Issue (step c u .unit) h nonce
 since u c h spent l = go (source h (step c u .unit) l)
   where
@@ -151,12 +152,12 @@ unfolding after
 nonces =
     record {
       live = λ s h l. from-fresh s h (source h (fresh s) l);
-      issued = λ s h nonce i. ap (λ (n : Nonce). n .live) (issue-holds (fresh s) h nonce i);
-      whose = λ s h nonce i. ap (λ (n : Nonce). n .bytes) (issue-holds (fresh s) h nonce i);
+      issued = λ s h nonce i. ap (λ (n : Nonces). n .live) (issue-holds (fresh s) h nonce i);
+      whose = λ s h nonce i. ap (λ (n : Nonces). n .newest) (issue-holds (fresh s) h nonce i);
       own = λ s h w room accepted. owned (fresh s) h w room (λ l. from-fresh s h (source h (fresh s) l)) accepted;
       once =
           λ s h w room p l.
-          clash (sym (ap (λ (v : TagUnit). v .nonce .live) (after-append h (calls (write w) room ∷ []) (fresh s))) ∙ l)
+          clash (sym (ap (λ (v : TagUnit). v .nonces .live) (after-append h (calls (write w) room ∷ []) (fresh s))) ∙ l)
           (write-spends (noncing (calls (write w) room) (after h (fresh s))) p);
       between =
           λ s g v firstRoom h w room earlier accepted.

@@ -22,16 +22,18 @@ use Rattle.unit.specs.WellFormed.{wellFormed, heldKeys}
 use Rattle.unit.specs.Standing.{stands}
 use Rattle.unit.specs.Outcome.{Outcome, refusing}
 use Rattle.unit.proofs.Lines.{held-count}
-use Rattle.tag.specs.Own.{nonceFits, issuing, pressed, charged, keeping, disconnected, lending, showing}
+use Rattle.nonces.specs.Nonces.{issuedNonces, nonceFits}
+use Rattle.nonces.proofs.Lines.{issued-count}
+use Rattle.tag.specs.Own.{issuing, pressed, charged, keeping, disconnected, lending, showing}
 use Rattle.tag.specs.Calls.{read, write, button, pairing, battery, accountKey, disconnect, identifier, frame, own as ownCall, Act, calls, waits}
 use Rattle.demands.specs.History.{step}
-use Rattle.demands.specs.Spelled.{keyAtPlace}
+use Rattle.demands.specs.Spelled.{keyAtPlace, nonceAtPlace}
 use Rattle.demands.specs.RecordLines.{RecordLines}
-use Rattle.demands.specs.RefusalOrder.{Own, nonceLength, lastIssued, ofWrite, batteryLevel, keyLength, sixthKey, rLength, identifierLength, lentWithoutKey, frameWithoutKey, frameWithoutIdentifier, otherWindow}
+use Rattle.demands.specs.RefusalOrder.{Own, nonceLength, nonceHeld, ofWrite, batteryLevel, keyLength, sixthKey, rLength, identifierLength, lentWithoutKey, frameWithoutKey, frameWithoutIdentifier, otherWindow}
 use Rattle.demands.proofs.Choices.{tested}
 use Rattle.demands.proofs.Ends.{tenths-give}
 use Rattle.demands.proofs.Guards.{roomFor, ownOf}
-use Rattle.demands.proofs.RecordLines.{key-at, among-found}
+use Rattle.demands.proofs.RecordLines.{key-at, nonce-at, among-found}
 use Rattle.demands.proofs.Refusing.{same-either}
 use Rattle.demands.proofs.Reasons.{one-fails}
 use Rattle.demands.proofs.Refused.{write-refused, only-for-a-reason}
@@ -49,14 +51,15 @@ module _ (u : TagUnit) (l : RecordLines u) where
   read-found : (nonce : List ℕ) (room : ℕ) → Found u (calls (read nonce) room) (issuing nonce u)
   unfolding issuing nonceFits
   read-found nonce room =
-      tested (Found u (calls (read nonce) room)) (nonceFits u nonce) (λ e. answered _ refl) (λ e. refused (go (one-fails _ _ e)))
+      tested (Found u (calls (read nonce) room)) (nonceFits (u .nonces) nonce) (λ e. answered _ refl) (λ e. refused (go (one-fails _ _ e)))
     where
-      go : (eqb (length nonce) 8 ≡ false) ⊎ ((eqb (length nonce) 8 ≡ true) × (not (u .nonce .held && sameBytes (u .nonce .bytes) nonce) ≡ false))
+      go : (eqb (length nonce) 8 ≡ false) ⊎ ((eqb (length nonce) 8 ≡ true) × (not (among nonce (issuedNonces (u .nonces))) ≡ false))
           → Own u (calls (read nonce) room) 3
       go (inl e) = nonceLength (eqb-false _ _ e)
       go (inr e) =
-          let again = not-false _ (e .1) in
-          lastIssued (and-left _ _ again) (sym (same-equal (u .nonce .bytes) nonce (and-right (u .nonce .held) _ again)))
+          let found = among-found nonce (issuedNonces (u .nonces)) (not-false _ (e .1)) in
+          let below : found .0 < u .nonces .count = omega (arith, found .1, issued-count (u .nonces)) in
+          nonceHeld (found .0) below (sym (found .2 ∙ nonce-at u (found .0) below))
 
   press-found : (room : ℕ) (s : Sound) → Found u (calls button room) (pressed s u)
   unfolding pressed
@@ -141,17 +144,19 @@ module _ (u : TagUnit) (n : ℕ) (l : RecordLines u) (right : wellFormed u ≡ t
 
 -- And for each of them it is refused
 module _ (u : TagUnit) (l : RecordLines u) where
-  nonce-refused : (nonce : List ℕ) → nonceFits u nonce ≡ false → issuing nonce u ≡ refusing 3 u
+  nonce-refused : (nonce : List ℕ) → nonceFits (u .nonces) nonce ≡ false → issuing nonce u ≡ refusing 3 u
   unfolding issuing
   nonce-refused nonce e = rw e
 
-  not-eight : (nonce : List ℕ) → (length nonce ≡ 8 → ⊥) → nonceFits u nonce ≡ false
+  not-eight : (nonce : List ℕ) → (length nonce ≡ 8 → ⊥) → nonceFits (u .nonces) nonce ≡ false
   unfolding nonceFits
   not-eight nonce h = and-fails-left _ (ne-eqb (length nonce) 8 h)
 
-  again : (nonce : List ℕ) → u .nonce .held ≡ true → nonce ≡ u .nonce .bytes → nonceFits u nonce ≡ false
+  again : (nonce : List ℕ) (p : ℕ) → p < u .nonces .count → nonceAtPlace u p ≡ nonce → nonceFits (u .nonces) nonce ≡ false
   unfolding nonceFits
-  again nonce held e = and-fails-right (eqb (length nonce) 8) (ap not (both held (equal-same (u .nonce .bytes) nonce (sym e))))
+  again nonce p held e =
+      let there = among-place (issuedNonces (u .nonces)) p (omega (arith, issued-count (u .nonces))) in
+      and-fails-right (eqb (length nonce) 8) (ap not (rw (nonce-at u p held ∙ e) at there))
 
   too-high : (level : ℕ) → 3 < level → charged level u ≡ refusing 1 u
   unfolding charged
@@ -191,7 +196,7 @@ module _ (u : TagUnit) (l : RecordLines u) where
   pub own-refuses : {a : Act} {n : ℕ} → Own u a n → wellFormed u ≡ true → 42 ≤ roomFor a → step a u .result ≡ refuses n
   unfolding ownCall
   own-refuses {a} (nonceLength {nonce} h) right fits = rw (through a u fits right, nonce-refused nonce (not-eight nonce h))
-  own-refuses {a} (lastIssued {nonce} held e) right fits = rw (through a u fits right, nonce-refused nonce (again nonce held e))
+  own-refuses {a} (nonceHeld {nonce} p held e) right fits = rw (through a u fits right, nonce-refused nonce (again nonce p held e))
   own-refuses (ofWrite {w} {room} {n} r) right fits = write-refused u room (w .bytes) n right fits r .number
   own-refuses {a} (batteryLevel {level} h) right fits = rw (through a u fits right, too-high level h)
   own-refuses {a} (keyLength {key} h) right fits = rw (through a u fits right, not-sixteen key h)

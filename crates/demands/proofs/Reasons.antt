@@ -45,9 +45,9 @@ module _ (key nonce : List ℕ) (id size : ℕ) (tag additional : List ℕ) wher
   unfolding tagged requestTag
   tag-wrong h e = same-differ (tagFrom key nonce id size additional) tag h (sym e)
 
-pub proof-wrong : (u : TagUnit) (proof : List ℕ) → proves u proof ≡ false → proof ≡ proofFrom (u .identity .bytes) (u .nonce .bytes) → ⊥
+pub proof-wrong : (u : TagUnit) (proof : List ℕ) → proves u proof ≡ false → proof ≡ proofFrom (u .identity .bytes) (u .nonces .newest) → ⊥
 unfolding keyProof
-proof-wrong u proof h e = same-differ (proofFrom (u .identity .bytes) (u .nonce .bytes)) proof h (sym e)
+proof-wrong u proof h e = same-differ (proofFrom (u .identity .bytes) (u .nonces .newest)) proof h (sym e)
 
 -- Two tests of which one fails
 pub one-fails : (a b : Bool) → a && b ≡ false → (a ≡ false) ⊎ ((a ≡ true) × (b ≡ false))
@@ -109,27 +109,27 @@ module _ (u : TagUnit) (w : List ℕ) (l : RecordLines u) where
   -- Where the owner did not sign
   data Unsigned (q : Request) : Type 0 where
     nobody : u .accounts .owner ≡ Owner.Nobody → Unsigned q
-    otherTag : (key : List ℕ) → OwnedWith u key → tagged key (u .nonce .bytes) q ≡ false → Unsigned q
+    otherTag : (key : List ℕ) → OwnedWith u key → tagged key (u .nonces .newest) q ≡ false → Unsigned q
 
   unsigned : (q : Request) → signedByOwner (spent u) q ≡ none → Unsigned q
   unfolding signedByOwner ownerKey
   unsigned q e = go (u .accounts .owner) refl e
     where
       go : (o : Owner) → u .accounts .owner ≡ o
-          → onlyIf (λ k. tagged k (u .nonce .bytes) q) (rowOf o (heldKeys (u .accounts))) ≡ none → Unsigned q
+          → onlyIf (λ k. tagged k (u .nonces .newest) q) (rowOf o (heldKeys (u .accounts))) ≡ none → Unsigned q
       go Owner.Nobody h n = nobody h
       go (Owner.Place p) h n =
           otherTag (getD (heldKeys (u .accounts)) p []) (p, h, sym (key-at u p (l .ownerHeld p h))) (not-chosen _ _ n)
 
-  module _ (tag additional : List ℕ) (live : u .nonce .live ≡ true) where
+  module _ (tag additional : List ℕ) (live : u .nonces .live ≡ true) where
     -- 0x00 and 0x01
     unmatched : (id : ℕ) → id ≤ 0x01 → Sent w id 8 tag additional → usedKey (spent u) (requestOf id 8 tag additional) ≡ none → Reason u w 0x80
     unfolding usedKey
     unmatched id low s e =
         nobodysTag s low
         (λ p h.
-        let fails-at = none-passes (λ k. tagged k (u .nonce .bytes) (requestOf id 8 tag additional)) (heldKeys (u .accounts)) e p (omega (arith, held-count (u .accounts))) in
-        tag-wrong (keyAtPlace u p) (u .nonce .bytes) id 8 tag additional (rw (key-at u p h) at fails-at))
+        let fails-at = none-passes (λ k. tagged k (u .nonces .newest) (requestOf id 8 tag additional)) (heldKeys (u .accounts)) e p (omega (arith, held-count (u .accounts))) in
+        tag-wrong (keyAtPlace u p) (u .nonces .newest) id 8 tag additional (rw (key-at u p h) at fails-at))
 
     -- 0x02
     not-set : (size : ℕ) → Sent w 0x02 size tag additional → signedByOwner (spent u) (requestOf 0x02 size tag additional) ≡ none → Reason u w 0x80
@@ -137,7 +137,7 @@ module _ (u : TagUnit) (w : List ℕ) (l : RecordLines u) where
       where
         go : Unsigned (requestOf 0x02 size tag additional) → Reason u w 0x80
         go (nobody h) = noOwner s h
-        go (otherTag key o t) = wrongTag s (setsKey o) (λ k. absurd (omega (arith, k .0))) (tag-wrong key (u .nonce .bytes) 0x02 size tag additional t)
+        go (otherTag key o t) = wrongTag s (setsKey o) (λ k. absurd (omega (arith, k .0))) (tag-wrong key (u .nonces .newest) 0x02 size tag additional t)
 
     set-first : Sent w 0x02 40 tag additional → Found (setKey (spent u) (requestOf 0x02 40 tag additional))
     unfolding setKey mayReplace
@@ -162,7 +162,7 @@ module _ (u : TagUnit) (w : List ℕ) (l : RecordLines u) where
         where
           go : Unsigned (requestOf 0x03 16 tag additional) → Reason u w 0x80
           go (nobody h) = absurd (l .keyOwned held h)
-          go (otherTag key o t) = wrongTag s (clears o) (λ k. absurd (omega (arith, k .0))) (tag-wrong key (u .nonce .bytes) 0x03 16 tag additional t)
+          go (otherTag key o t) = wrongTag s (clears o) (λ k. absurd (omega (arith, k .0))) (tag-wrong key (u .nonces .newest) 0x03 16 tag additional t)
 
       clear : Sent w 0x03 16 tag additional → Found (clearKey (spent u) (requestOf 0x03 16 tag additional))
       unfolding clearKey
@@ -180,23 +180,23 @@ module _ (u : TagUnit) (w : List ℕ) (l : RecordLines u) where
 
       -- a request that a derived key did not sign
       not-signed : (id size n : ℕ) → Sent w id size tag additional → Signer u id (keyFrom n (u .identity .bytes)) → (Skipped u id → ⊥)
-          → tagged (derivedKey n (u .identity .bytes)) (u .nonce .bytes) (requestOf id size tag additional) ≡ false → Reason u w 0x80
+          → tagged (derivedKey n (u .identity .bytes)) (u .nonces .newest) (requestOf id size tag additional) ≡ false → Reason u w 0x80
       unfolding derivedKey
       not-signed id size n s key unskipped e =
-          wrongTag s key unskipped (tag-wrong (keyFrom n (u .identity .bytes)) (u .nonce .bytes) id size tag additional e)
+          wrongTag s key unskipped (tag-wrong (keyFrom n (u .identity .bytes)) (u .nonces .newest) id size tag additional e)
 
       is-signed : (id size n : ℕ) → Sent w id size tag additional → Signer u id (keyFrom n (u .identity .bytes))
-          → tagged (derivedKey n (u .identity .bytes)) (u .nonce .bytes) (requestOf id size tag additional) ≡ true → Tagged u w id additional
+          → tagged (derivedKey n (u .identity .bytes)) (u .nonces .newest) (requestOf id size tag additional) ≡ true → Tagged u w id additional
       unfolding derivedKey
       is-signed id size n s key e =
-          signed s live held key (tag-right (keyFrom n (u .identity .bytes)) (u .nonce .bytes) id size tag additional e)
+          signed s live held key (tag-right (keyFrom n (u .identity .bytes)) (u .nonces .newest) id size tag additional e)
 
       recover : Sent w 0x04 8 tag additional → Found (recoverKey (spent u) (requestOf 0x04 8 tag additional))
       unfolding recoverKey
       recover s =
           with-key (ownerKey (u .accounts)) _ (λ e. absurd (owner-there e))
           (λ key o.
-          checked (tagged (derivedKey 0x01 (u .identity .bytes)) (u .nonce .bytes) (requestOf 0x04 8 tag additional))
+          checked (tagged (derivedKey 0x01 (u .identity .bytes)) (u .nonces .newest) (requestOf 0x04 8 tag additional))
           (λ t.
           checked (ltb 0 (u .consent) || u .pairing) (λ e. accepted)
           (λ e.
@@ -209,7 +209,7 @@ module _ (u : TagUnit) (w : List ℕ) (l : RecordLines u) where
       skipping (Protection.On skip) e = rw e
 
       passed : Sent w 0x05 12 tag additional
-          → (skips (u .protection) ≡ true) ⊎ (tagged (derivedKey 0x02 (u .identity .bytes)) (u .nonce .bytes) (requestOf 0x05 12 tag additional) ≡ true)
+          → (skips (u .protection) ≡ true) ⊎ (tagged (derivedKey 0x02 (u .identity .bytes)) (u .nonces .newest) (requestOf 0x05 12 tag additional) ≡ true)
           → Tagged u w 0x05 additional
       passed s (inl e) = skipped s live held (refl, skipping (u .protection) e)
       passed s (inr e) = is-signed 0x05 12 0x02 s rings e
@@ -226,7 +226,7 @@ module _ (u : TagUnit) (w : List ℕ) (l : RecordLines u) where
       ring-found : Sent w 0x05 12 tag additional → Found (ring (spent u) (requestOf 0x05 12 tag additional))
       unfolding ring
       ring-found s =
-          checked (skips (u .protection) || tagged (derivedKey 0x02 (u .identity .bytes)) (u .nonce .bytes) (requestOf 0x05 12 tag additional))
+          checked (skips (u .protection) || tagged (derivedKey 0x02 (u .identity .bytes)) (u .nonces .newest) (requestOf 0x05 12 tag additional))
           (λ t.
           checked (ringLegal (u .settings) additional) (λ e. rung-found (spent u) _ _ _)
           (not-legal (passed s (or-cases _ _ t)) (s .counted)))
@@ -236,14 +236,14 @@ module _ (u : TagUnit) (w : List ℕ) (l : RecordLines u) where
       read-sound : Sent w 0x06 8 tag additional → Found (readSound (spent u) (requestOf 0x06 8 tag additional))
       unfolding readSound
       read-sound s =
-          checked (tagged (derivedKey 0x02 (u .identity .bytes)) (u .nonce .bytes) (requestOf 0x06 8 tag additional)) (λ e. accepted)
+          checked (tagged (derivedKey 0x02 (u .identity .bytes)) (u .nonces .newest) (requestOf 0x06 8 tag additional)) (λ e. accepted)
           (not-signed 0x06 8 0x02 s readsSound (λ k. absurd (omega (arith, k .0))))
 
       protect-found : (size : ℕ) → Sent w 0x07 size tag additional → (leb (getD additional 0 0) 1 ≡ false → Tagged u w 0x07 additional → Reason u w 0x81)
           → Found (protect (spent u) (requestOf 0x07 size tag additional))
       unfolding protect
       protect-found size s fault =
-          checked (tagged (derivedKey 0x03 (u .identity .bytes)) (u .nonce .bytes) (requestOf 0x07 size tag additional))
+          checked (tagged (derivedKey 0x03 (u .identity .bytes)) (u .nonces .newest) (requestOf 0x07 size tag additional))
           (λ t. checked (leb (getD additional 0 0) 1) (λ e. accepted) (λ e. fault e (is-signed 0x07 size 0x03 s protects t)))
           (not-signed 0x07 size 0x03 s protects (λ k. absurd (omega (arith, k .0))))
 
@@ -258,11 +258,11 @@ module _ (u : TagUnit) (w : List ℕ) (l : RecordLines u) where
       unprotect-found : Sent w 0x08 16 tag additional → Found (unprotect (spent u) (requestOf 0x08 16 tag additional))
       unfolding unprotect
       unprotect-found s =
-          checked (tagged (derivedKey 0x03 (u .identity .bytes)) (u .nonce .bytes) (requestOf 0x08 16 tag additional) && proves (spent u) additional)
+          checked (tagged (derivedKey 0x03 (u .identity .bytes)) (u .nonces .newest) (requestOf 0x08 16 tag additional) && proves (spent u) additional)
           (λ e. accepted) (λ e. go (one-fails _ _ e))
         where
-          go : (tagged (derivedKey 0x03 (u .identity .bytes)) (u .nonce .bytes) (requestOf 0x08 16 tag additional) ≡ false)
-              ⊎ ((tagged (derivedKey 0x03 (u .identity .bytes)) (u .nonce .bytes) (requestOf 0x08 16 tag additional) ≡ true) × (proves (spent u) additional ≡ false))
+          go : (tagged (derivedKey 0x03 (u .identity .bytes)) (u .nonces .newest) (requestOf 0x08 16 tag additional) ≡ false)
+              ⊎ ((tagged (derivedKey 0x03 (u .identity .bytes)) (u .nonces .newest) (requestOf 0x08 16 tag additional) ≡ true) × (proves (spent u) additional ≡ false))
               → Reason u w 0x80
           go (inl e) = not-signed 0x08 16 0x03 s unprotects (λ k. absurd (omega (arith, k .0))) e
           go (inr e) = wrongProof s (proof-wrong (spent u) additional (e .1))
@@ -288,7 +288,7 @@ module _ (u : TagUnit) (w : List ℕ) (l : RecordLines u) where
       checked (shapeLegal w)
       (λ h.
       let s = legal-sent w h in
-      checked (u .nonce .live)
+      checked (u .nonces .live)
       (λ live.
       checked (keyThere u (parsed w)) (by-id (parsed w .tag) (parsed w .additional) live (s .legal) s)
       (λ e. noIdentityKey s (ltb-false (parsed w .id) 3 (or-fails-left _ _ e)) (or-fails-right (ltb (parsed w .id) 3) _ e)))

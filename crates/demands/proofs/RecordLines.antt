@@ -3,7 +3,7 @@
 use Prim.Native.Nat.{ℕ, zero, suc, _+_, _*_, _-_, _/_, _%_, _^_, _≤_, _<_}
 use mathlib.Core.Path.{_≡_, refl, sym, ap, _∙_}
 use mathlib.Core.Bool.{Bool, true, false, not, _&&_, _||_, false≢true}
-use mathlib.Core.List.{List, [], _∷_}
+use mathlib.Core.List.{List, [], _∷_, _++_}
 use mathlib.Core.Logic.{_⊎_, inl, inr}
 use native.Mathlib.Omega.{arith}
 use lib.Dec.{eqb, ltb, leb→le, le→leb}
@@ -18,14 +18,16 @@ use Rattle.laws.proofs.Same.{same-equal}
 use Rattle.tables.specs.Rows.{among, distinct}
 use Rattle.tables.proofs.Rows.{row-at, among-place}
 use Rattle.unit.specs.Ringable.{inside}
-use Rattle.unit.specs.WellFormed.{powerLegal, heldKeys, placeLegal, ownerLegal, owned, identityLegal, nonceLegal, soundLegal, protectionLegal, identifierLegal}
+use Rattle.unit.specs.WellFormed.{powerLegal, heldKeys, placeLegal, ownerLegal, owned, identityLegal, soundLegal, protectionLegal, identifierLegal}
 use Rattle.unit.specs.declared.TagUnit.{TagUnit}
 use Rattle.unit.specs.declared.Owner.{Owner}
 use Rattle.unit.specs.declared.Identity.{Identity}
 use Rattle.unit.specs.declared.Sound.{Sound}
 use Rattle.unit.specs.declared.Protection.{Protection}
 use Rattle.unit.proofs.Lines.{Lines, lines, formed, held-count, owner-held, identity-owned, waiting-owned, ring-held, ring-legal, silent-zeros, protection-held, identifier-held, identifier-window}
-use Rattle.demands.specs.Spelled.{keyAtPlace}
+use Rattle.nonces.specs.Nonces.{issuedNonces}
+use Rattle.nonces.proofs.Lines.{NoncesLines, nonces-lines, nonces-legal, issued-count}
+use Rattle.demands.specs.Spelled.{keyAtPlace, nonceAtPlace}
 use Rattle.demands.specs.RecordLines.{Zeros, RingLines, RecordLines, WellFormedExactly}
 use Rattle.demands.proofs.MaskBits.{inside-below, below-inside, no-bit, bit-from}
 
@@ -75,6 +77,13 @@ key-at u p h =
     let there : p * 16 ≡ 16 * p = omega arith in
     row-at 16 (u .accounts .count) (u .accounts .keys) p h ∙ rw there
 
+-- and the nonce at a place
+pub nonce-at : (u : TagUnit) (p : ℕ) → p < u .nonces .count → getD (issuedNonces (u .nonces)) p [] ≡ nonceAtPlace u p
+unfolding issuedNonces
+nonce-at u p h =
+    let there : p * 8 ≡ 8 * p = omega arith in
+    row-at 8 (u .nonces .count) (u .nonces .newest ++ u .nonces .earlier) p h ∙ rw there
+
 -- Spare room
 spare-at : (l : List ℕ) (n i : ℕ) → allZero (drop n l) ≡ true → n ≤ i → getD l i 0 ≡ 0
 spare-at l n i h k =
@@ -120,9 +129,10 @@ module _ (u : TagUnit) (l : Lines u) where
         mostLeft = r .most;
       }
 
-  nonce-absent : u .nonce .held ≡ false → not (u .nonce .live) && allZero (u .nonce .bytes) ≡ true
-  unfolding nonceLegal
-  nonce-absent e = rw e at (l .nonce)
+  nonces-differ : (i j : ℕ) → i < j → j < u .nonces .count → nonceAtPlace u i ≡ nonceAtPlace u j → ⊥
+  nonces-differ i j h k e =
+      distinct-pairs (issuedNonces (u .nonces)) (nonces-lines (u .nonces) (l .nonces) .different) i j h (omega (arith, issued-count (u .nonces)))
+      (nonce-at u i (omega arith) ∙ e ∙ sym (nonce-at u j k))
 
   identity-absent : (k : Identity) → identityLegal k (u .accounts .owner) ≡ true → k .held ≡ false → allZero (k .bytes) ≡ true
   unfolding identityLegal
@@ -150,8 +160,13 @@ module _ (u : TagUnit) (l : Lines u) where
         noKey = λ e. zeros-at _ (identity-absent (u .identity) (l .identity) e);
         waitingOwned = λ e. not-nobody (waiting-owned l e);
         noneWaits = λ e. zeros-at _ (identity-absent (u .waiting) (l .waiting) e);
-        notLive = λ e. not-true _ (and-left _ _ (nonce-absent e));
-        noNonce = λ e. zeros-at _ (and-right (not (u .nonce .live)) _ (nonce-absent e));
+        newestRoom = nonces-lines (u .nonces) (l .nonces) .newestRoom;
+        earlierRoom = nonces-lines (u .nonces) (l .nonces) .restRoom;
+        noncesHeld = nonces-lines (u .nonces) (l .nonces) .count;
+        noNonceTwice = nonces-differ;
+        noOtherNonces = λ i h.
+            spare-at (u .nonces .newest ++ u .nonces .earlier) (u .nonces .count * 8) i (nonces-lines (u .nonces) (l .nonces) .spare) (omega arith);
+        notLive = λ e. fails _ (λ live. omega (arith, nonces-lines (u .nonces) (l .nonces) .held live));
         silent = λ e. zeros-at _ (silent-zeros l e);
         ringing = ring-met;
         protected = λ skip e. protection-held l e;
@@ -186,9 +201,24 @@ module _ (u : TagUnit) (l : RecordLines u) where
       go true h z = or-left false (owned-by (u .accounts .owner) (h refl))
       go false h z = zeros-all _ (z refl)
 
-  nonce-legal : (b : Bool) → u .nonce .held ≡ b → b || (not (u .nonce .live) && allZero (u .nonce .bytes)) ≡ true
-  nonce-legal true e = refl
-  nonce-legal false e = both (ap not (l .notLive e)) (zeros-all _ (l .noNonce e))
+  nonces-back : NoncesLines (u .nonces)
+  nonces-back =
+      record {
+        newestRoom = l .newestRoom;
+        restRoom = l .earlierRoom;
+        count = l .noncesHeld;
+        different =
+            pairs-distinct (issuedNonces (u .nonces))
+            (λ i j h k e.
+            let below : j < u .nonces .count = omega (arith, issued-count (u .nonces)) in
+            l .noNonceTwice i j h below (sym (nonce-at u i (omega arith)) ∙ e ∙ nonce-at u j below));
+        spare = spare-all (u .nonces .newest ++ u .nonces .earlier) (u .nonces .count * 8) (λ i h. l .noOtherNonces i (omega arith));
+        held = λ live. some (true-or-false (ltb 0 (u .nonces .count))) live;
+      }
+    where
+      some : (ltb 0 (u .nonces .count) ≡ true) ⊎ (ltb 0 (u .nonces .count) ≡ false) → u .nonces .live ≡ true → 0 < u .nonces .count
+      some (inl e) live = ltb-true _ _ e
+      some (inr e) live = absurd (clash live (l .notLive (let none : u .nonces .count ≤ 0 = ltb-false 0 (u .nonces .count) e in omega arith)))
 
   within : (mask : ℕ) → ((i : ℕ) → u .settings .components ≤ i → mask / 2 ^ i % 2 ≡ 0) → inside mask (u .settings .components) ≡ true
   within mask none = go (true-or-false (ltb mask (2 ^ u .settings .components)))
@@ -226,7 +256,7 @@ module _ (u : TagUnit) (l : RecordLines u) where
   identifier-legal false e = both (zeros-all _ (l .noR e)) (both (zeros-all _ (l .noIdentifier e)) (eq-eqb _ _ (l .noWindow e)))
 
   lines-back : Lines u
-  unfolding ownerLegal nonceLegal identifierLegal
+  unfolding ownerLegal identifierLegal
   lines-back =
       record {
         settings =
@@ -250,7 +280,7 @@ module _ (u : TagUnit) (l : RecordLines u) where
         owner = owner-legal (u .accounts .owner) refl;
         identity = identity-legal (u .identity) (l .keyOwned) (l .noKey);
         waiting = identity-legal (u .waiting) (l .waitingOwned) (l .noneWaits);
-        nonce = nonce-legal (u .nonce .held) refl;
+        nonces = nonces-legal (u .nonces) nonces-back;
         sound = sound-legal (u .sound) refl;
         protection = protection-legal (u .protection) refl;
         consent = l .consent;

@@ -2,15 +2,15 @@
 -- served by the acceptance laws. Nothing is computed.
 use Prim.Native.Nat.{ℕ, zero, suc, _+_, _<_}
 use mathlib.Core.Path.{_≡_, refl, sym, ap, _∙_}
-use mathlib.Core.Bool.{true}
+use mathlib.Core.Bool.{true, false}
 use mathlib.Core.List.{List, [], _∷_, _++_}
 use mathlib.Core.Logic.{inl}
 use native.Mathlib.Omega.{arith}
-use lib.ListN.{length, getD, drop, replicate}
+use lib.ListN.{length, getD, drop, replicate, take}
 use lib.Seq.{take-all, take-at, drop-at}
 use borrow.Author.Tests.{eq-eqb}
 use Rattle.laws.specs.Answer.{gives}
-use Rattle.laws.proofs.Same.{differ-same, same-refl}
+use Rattle.laws.proofs.Same.{differ-same, same-refl, same-sym}
 use Rattle.primitives.specs.Standards.{HMAC}
 use Rattle.primitives.proofs.Laws.{HMAC-byte}
 use Rattle.wire.specs.Signing.{requestTag}
@@ -21,8 +21,9 @@ use Rattle.unit.specs.declared.Owner.{Owner}
 use Rattle.tables.specs.Rows.{rows, among, placeOf}
 use Rattle.unit.specs.declared.Accounts.{Accounts}
 use Rattle.unit.specs.WellFormed.{settingsLegal, wellFormed, heldKeys}
-use Rattle.unit.specs.Change.{fresh, noAccounts, withAccounts, withNewKey, withNonce, withOwner, withConsent, spent}
+use Rattle.unit.specs.Change.{fresh, noAccounts, withAccounts, withNewKey, withNonces, withOwner, withConsent, spent}
 use Rattle.unit.specs.Outcome.{Outcome, giving, formed}
+use Rattle.unit.proofs.Lines.{lines}
 use Rattle.unit.proofs.Kept.{fresh-formed, issued-kept, spent-kept, accounts-kept, owner-kept, waiting-kept, consent-kept}
 use Rattle.provisioning.specs.Provisioning.{awaiting, ownedBy}
 use Rattle.tag.specs.Own.{keeping, pressed, broughtIn, disconnected}
@@ -39,7 +40,9 @@ use Rattle.demands.proofs.Formed.{formed as stays-formed}
 use Rattle.demands.proofs.Judging.{opened, length-requestTag}
 use Rattle.demands.proofs.Accepted.{reads, serves-state, serves-key, accepted}
 use Rattle.demands.proofs.OtherCalls.{kind}
-use Rattle.demands.proofs.CallsOnNonce.{issued}
+use Rattle.nonces.specs.Nonces.{issuedNonces, withIssued}
+use Rattle.nonces.proofs.Lines.{nonces-lines}
+use Rattle.nonces.proofs.Issuing.{issued-first, fits-both}
 use Rattle.demands.proofs.Recovery.{recovery}
 
 -- A write as sent is of bytes
@@ -85,13 +88,13 @@ module _ (s : Settings) (key C n₁ n₂ n₃ : List ℕ) (g : Given s key C n�
   keyed = withAccounts (withNewKey key noAccounts) (fresh s)
 
   abbrev first : TagUnit
-  first = withNonce (issued n₁) keyed
+  first = withNonces (withIssued n₁ (keyed .nonces)) keyed
 
   abbrev owned : TagUnit
   owned = withAccounts (withOwner (Owner.Place 0) (withNewKey key noAccounts)) (spent first)
 
   abbrev second : TagUnit
-  second = withNonce (issued n₂) owned
+  second = withNonces (withIssued n₂ (owned .nonces)) owned
 
   abbrev awaited : TagUnit
   awaited = awaiting (decryptedKey key C) (spent second)
@@ -103,7 +106,7 @@ module _ (s : Settings) (key C n₁ n₂ n₃ : List ℕ) (g : Given s key C n�
   consented = withConsent 600 provisioned
 
   abbrev third : TagUnit
-  third = withNonce (issued n₃) consented
+  third = withNonces (withIssued n₃ (consented .nonces)) consented
 
   abbrev start : List Act
   start = calls (accountKey key) 0 ∷ calls (read n₁) 42 ∷ writes (requestFrom 0x01 key n₁ []) 42 ∷ calls (read n₂) 42 ∷ []
@@ -128,8 +131,13 @@ module _ (s : Settings) (key C n₁ n₂ n₃ : List ℕ) (g : Given s key C n�
   unfolding act call guarded own keeping formed heldKeys rows among
   adds = rw (fresh-formed s (g .legal), eq-eqb (length key) 16 (g .keyLong))
 
+  -- none of the nonces is held when it is lent
+  first-fits : among n₁ (issuedNonces (keyed .nonces)) ≡ false
+  unfolding issuedNonces rows among
+  first-fits = refl
+
   first-formed : wellFormed first ≡ true
-  first-formed = issued-kept keyed keyed-formed true n₁
+  first-formed = issued-kept keyed keyed-formed n₁ (fits-both _ n₁ (g .long₁) first-fits)
 
   owned-formed : wellFormed owned ≡ true
   owned-formed = owner-kept (spent first) (spent-kept first first-formed) 0 (omega arith)
@@ -152,8 +160,16 @@ module _ (s : Settings) (key C n₁ n₂ n₃ : List ℕ) (g : Given s key C n�
       rw at-first at (serves-state first 42 0 {Left = λ (v : TagUnit). v ≡ withAccounts (ownedBy (keyAtPlace first 0) (first .accounts)) (spent first)} ready only refl .left)
       ∙ ap (λ (a : Accounts). withAccounts a (spent first)) owner-first
 
+  after-first : issuedNonces (owned .nonces) ≡ n₁ ∷ []
+  unfolding issuedNonces rows
+  after-first = issued-first n₁ (keyed .nonces) (nonces-lines _ (lines keyed keyed-formed .nonces)) (g .long₁)
+
+  second-fits : among n₂ (issuedNonces (owned .nonces)) ≡ false
+  unfolding among
+  second-fits = rw (after-first, same-sym n₂ n₁, differ-same n₁ n₂ (g .second))
+
   second-formed : wellFormed second ≡ true
-  second-formed = issued-kept owned owned-formed true n₂
+  second-formed = issued-kept owned owned-formed n₂ (fits-both _ n₂ (g .long₂) second-fits)
 
   sets-it : Serves (writes (requestFrom 0x02 key n₂ C) 42) second (answer second 0x02 key []) (λ (v : TagUnit). v ≡ awaited)
   sets-it =
@@ -176,14 +192,24 @@ module _ (s : Settings) (key C n₁ n₂ n₃ : List ℕ) (g : Given s key C n�
   consented-formed : wellFormed consented ≡ true
   consented-formed = consent-kept provisioned provisioned-formed 600 (omega arith)
 
+  after-second : issuedNonces (consented .nonces) ≡ n₂ ∷ n₁ ∷ []
+  unfolding issuedNonces rows
+  after-second =
+      issued-first n₂ (owned .nonces) (nonces-lines _ (lines owned owned-formed .nonces)) (g .long₂)
+      ∙ ap (λ (l : List (List ℕ)). take 16 (n₂ ∷ l)) after-first
+
+  third-fits : among n₃ (issuedNonces (consented .nonces)) ≡ false
+  unfolding among
+  third-fits = rw (after-second, same-sym n₃ n₂, differ-same n₂ n₃ (g .third), same-sym n₃ n₁, differ-same n₁ n₃ (g .notFirst))
+
   -- The history as a whole
   before : after start (fresh s) ≡ second
   before =
       runs-after
       (next (ap unit-of adds)
-      (next (ap unit-of (reads keyed 42 n₁ keyed-formed (omega arith) (g .long₁) refl))
+      (next (ap unit-of (reads keyed 42 n₁ keyed-formed (omega arith) (g .long₁) first-fits))
       (next owns-it
-      (next (ap unit-of (reads owned 42 n₂ owned-formed (omega arith) (g .long₂) (differ-same n₁ n₂ (g .second)))) done))))
+      (next (ap unit-of (reads owned 42 n₂ owned-formed (omega arith) (g .long₂) second-fits)) done))))
 
   all : after (provisioning key C n₁ n₂ n₃) (fresh s) ≡ third
   all =
@@ -193,7 +219,7 @@ module _ (s : Settings) (key C n₁ n₂ n₃ : List ℕ) (g : Given s key C n�
       (next (sets-it .left)
       (next (ap unit-of hangs-up)
       (next (ap unit-of presses)
-      (next (ap unit-of (reads consented 42 n₃ consented-formed (omega arith) (g .long₃) (differ-same n₂ n₃ (g .third)))) done))))
+      (next (ap unit-of (reads consented 42 n₃ consented-formed (omega arith) (g .long₃) third-fits)) done))))
 
   abbrev said : List ℕ
   said = answer third 0x04 (recoveryKeyOf third) (keyBlocks key (third .identity .bytes))
@@ -202,7 +228,7 @@ module _ (s : Settings) (key C n₁ n₂ n₃ : List ℕ) (g : Given s key C n�
   unfolding decryptedKey
   recovers-it =
       accepted .keyRecovered third 42 key
-      (record { formed = issued-kept consented consented-formed true n₃; live = refl; fits = omega arith }) (0, refl, at-first) refl
+      (record { formed = issued-kept consented consented-formed n₃ (fits-both _ n₃ (g .long₃) third-fits); live = refl; fits = omega arith }) (0, refl, at-first) refl
       (inl (omega arith)) .answered
 
   all-bytes : AllOfBytes (provisioning key C n₁ n₂ n₃)
@@ -269,6 +295,7 @@ example =
             long₃ = refl;
             second = λ e. omega (arith, ap (λ (l : List ℕ). getD l 0 0) e);
             third = λ e. omega (arith, ap (λ (l : List ℕ). getD l 0 0) e);
+            notFirst = λ e. omega (arith, ap (λ (l : List ℕ). getD l 0 0) e);
             keyBytes = replicate-bytes 16 0 (omega arith);
             encryptedBytes = replicate-bytes 32 0 (omega arith);
             bytes₁ = replicate-bytes 8 1 (omega arith);

@@ -23,7 +23,7 @@ use Rattle.demands.proofs.Reasons.{reason-found}
 pub only-spends : (u : TagUnit) → OnlySpends u (spent u)
 only-spends u =
     record {
-      nonceSpent = record { held = refl; bytes = refl; dead = refl };
+      nonceSpent = record { count = refl; newest = refl; earlier = refl; dead = refl };
       rest = (refl, refl, tt, refl, refl, refl, refl, refl, refl, refl, refl, refl, refl);
     }
 

@@ -47,9 +47,9 @@ module _ (key nonce : List ℕ) (id size : ℕ) (tag additional : List ℕ) wher
   unfolding tagged requestTag
   tag-passes e = equal-same (tagFrom key nonce id size additional) tag (sym e)
 
-proof-fails : (u : TagUnit) (proof : List ℕ) → (proof ≡ proofFrom (u .identity .bytes) (u .nonce .bytes) → ⊥) → proves u proof ≡ false
+proof-fails : (u : TagUnit) (proof : List ℕ) → (proof ≡ proofFrom (u .identity .bytes) (u .nonces .newest) → ⊥) → proves u proof ≡ false
 unfolding keyProof
-proof-fails u proof h = differ-same (proofFrom (u .identity .bytes) (u .nonce .bytes)) proof (λ e. h (sym e))
+proof-fails u proof h = differ-same (proofFrom (u .identity .bytes) (u .nonces .newest)) proof (λ e. h (sym e))
 
 -- No row passes a test that all fail
 all-fail : (test : List ℕ → Bool) (l : List (List ℕ)) → ((i : ℕ) → i < length l → test (getD l i []) ≡ false) → firstThat test l ≡ none
@@ -65,30 +65,30 @@ under-refused none g h = refl
 module _ (u : TagUnit) (w : List ℕ) (l : RecordLines u) where
   module _ {id size : ℕ} {tag additional : List ℕ} (s : Sent w id size tag additional) where
     judged-as : judged u w
-        ≡ cond (u .nonce .live) (cond (ltb id 3 || u .identity .held) (byId (spent u) (requestOf id size tag additional)) (rejects 0x80)) (rejects 0x80)
+        ≡ cond (u .nonces .live) (cond (ltb id 3 || u .identity .held) (byId (spent u) (requestOf id size tag additional)) (rejects 0x80)) (rejects 0x80)
     unfolding judged
     judged-as = rw (sent-legal s, sent-parts s)
 
     unauthenticated : byId (spent u) (requestOf id size tag additional) ≡ rejects 0x80 → judged u w ≡ rejects 0x80
-    unauthenticated e = judged-as ∙ rw e (rw (same-either (ltb id 3 || u .identity .held)) (same-either (u .nonce .live) (rejects 0x80)))
+    unauthenticated e = judged-as ∙ rw e (rw (same-either (ltb id 3 || u .identity .held)) (same-either (u .nonces .live) (rejects 0x80)))
 
-    after-tag : (n : ℕ) → u .nonce .live ≡ true → u .identity .held ≡ true → byId (spent u) (requestOf id size tag additional) ≡ rejects n
+    after-tag : (n : ℕ) → u .nonces .live ≡ true → u .identity .held ≡ true → byId (spent u) (requestOf id size tag additional) ≡ rejects n
         → judged u w ≡ rejects n
     after-tag n live held e = judged-as ∙ rw (live, or-right (ltb id 3) held, e)
 
   -- 0x00 and 0x01: the tag of no held key
   unmatched : (id : ℕ) (tag additional : List ℕ)
-      → ((p : ℕ) → p < u .accounts .count → tag ≡ tagFrom (keyAtPlace u p) (u .nonce .bytes) id 8 additional → ⊥)
+      → ((p : ℕ) → p < u .accounts .count → tag ≡ tagFrom (keyAtPlace u p) (u .nonces .newest) id 8 additional → ⊥)
       → usedKey (spent u) (requestOf id 8 tag additional) ≡ none
   unfolding usedKey
   unmatched id tag additional h =
-      all-fail (λ k. tagged k (u .nonce .bytes) (requestOf id 8 tag additional)) (heldKeys (u .accounts))
+      all-fail (λ k. tagged k (u .nonces .newest) (requestOf id 8 tag additional)) (heldKeys (u .accounts))
       (λ p b.
       let below : p < u .accounts .count = omega (arith, held-count (u .accounts)) in
-      rw (key-at u p below) (tag-fails (keyAtPlace u p) (u .nonce .bytes) id 8 tag additional (h p below)))
+      rw (key-at u p below) (tag-fails (keyAtPlace u p) (u .nonces .newest) id 8 tag additional (h p below)))
 
   nobodys : {id size : ℕ} (tag additional : List ℕ) → LegalLength id size → id ≤ 0x01
-      → ((p : ℕ) → p < u .accounts .count → tag ≡ tagFrom (keyAtPlace u p) (u .nonce .bytes) id size additional → ⊥)
+      → ((p : ℕ) → p < u .accounts .count → tag ≡ tagFrom (keyAtPlace u p) (u .nonces .newest) id size additional → ⊥)
       → byId (spent u) (requestOf id size tag additional) ≡ rejects 0x80
   unfolding byId readParameters readState
   nobodys tag additional ofParameters low h = rw (unmatched 0x00 tag additional h)
@@ -118,7 +118,7 @@ module _ (u : TagUnit) (w : List ℕ) (l : RecordLines u) where
   owner-is (p, e, is) =
       ap (λ (o : Owner). rowOf o (heldKeys (u .accounts))) e ∙ ap {B = Option (List ℕ)} (λ k. some k) (key-at u p (l .ownerHeld p e) ∙ is)
 
-  not-owners : (q : Request) (key : List ℕ) → OwnedWith u key → tagged key (u .nonce .bytes) q ≡ false → signedByOwner (spent u) q ≡ none
+  not-owners : (q : Request) (key : List ℕ) → OwnedWith u key → tagged key (u .nonces .newest) q ≡ false → signedByOwner (spent u) q ≡ none
   unfolding signedByOwner
   not-owners q key o t = rw (owner-is o, t)
 
@@ -136,7 +136,7 @@ module _ (u : TagUnit) (w : List ℕ) (l : RecordLines u) where
   not-skipping (Protection.On false) h = refl
 
   wrong-tag : {id : ℕ} {key : List ℕ} (size : ℕ) (tag additional : List ℕ) → Signer u id key → (Skipped u id → ⊥)
-      → tagged key (u .nonce .bytes) (requestOf id size tag additional) ≡ false
+      → tagged key (u .nonces .newest) (requestOf id size tag additional) ≡ false
       → byId (spent u) (requestOf id size tag additional) ≡ rejects 0x80
   unfolding byId setKey clearKey recoverKey ring readSound protect unprotect derivedKey
   wrong-tag size tag additional (setsKey {key} o) unskipped t = rw (not-owners (requestOf 0x02 size tag additional) key o t)
@@ -162,14 +162,14 @@ module _ (u : TagUnit) (w : List ℕ) (l : RecordLines u) where
   unfolding mayReplace
   unproven tag additional e = ap not e
 
-  wrongly-proven : (tag additional : List ℕ) → (drop 32 additional ≡ proofFrom (u .identity .bytes) (u .nonce .bytes) → ⊥)
+  wrongly-proven : (tag additional : List ℕ) → (drop 32 additional ≡ proofFrom (u .identity .bytes) (u .nonces .newest) → ⊥)
       → mayReplace (spent u) (requestOf 0x02 48 tag additional) ≡ false
   unfolding mayReplace
   wrongly-proven tag additional h = and-fails-right (u .identity .held) (proof-fails (spent u) (drop 32 additional) h)
 
   -- 0x03 and 0x08
   wrong-proof : {id size : ℕ} (tag additional : List ℕ) → LegalLength id size → size ≡ 16
-      → (additional ≡ proofFrom (u .identity .bytes) (u .nonce .bytes) → ⊥) → byId (spent u) (requestOf id size tag additional) ≡ rejects 0x80
+      → (additional ≡ proofFrom (u .identity .bytes) (u .nonces .newest) → ⊥) → byId (spent u) (requestOf id size tag additional) ≡ rejects 0x80
   unfolding byId clearKey unprotect
   wrong-proof tag additional ofParameters n h = absurd (omega arith)
   wrong-proof tag additional ofState n h = absurd (omega arith)
@@ -183,11 +183,11 @@ module _ (u : TagUnit) (w : List ℕ) (l : RecordLines u) where
   wrong-proof tag additional ofProtection n h = absurd (omega arith)
   wrong-proof tag additional ofProtectionFlag n h = absurd (omega arith)
   wrong-proof tag additional ofUnprotection n h =
-      rw (and-fails-right (tagged (derivedKey 0x03 (u .identity .bytes)) (u .nonce .bytes) (requestOf 0x08 16 tag additional)) (proof-fails (spent u) additional h))
+      rw (and-fails-right (tagged (derivedKey 0x03 (u .identity .bytes)) (u .nonces .newest) (requestOf 0x08 16 tag additional)) (proof-fails (spent u) additional h))
 
   -- Values, and consent, after the tag
   ring-refused : (size mask high low volume : ℕ) (tag : List ℕ) → IllegalRing (u .settings .components) mask high low volume
-      → skips (u .protection) || tagged (derivedKey 0x02 (u .identity .bytes)) (u .nonce .bytes) (requestOf 0x05 size tag (mask ∷ high ∷ low ∷ volume ∷ [])) ≡ true
+      → skips (u .protection) || tagged (derivedKey 0x02 (u .identity .bytes)) (u .nonces .newest) (requestOf 0x05 size tag (mask ∷ high ∷ low ∷ volume ∷ [])) ≡ true
       → byId (spent u) (requestOf 0x05 size tag (mask ∷ high ∷ low ∷ volume ∷ [])) ≡ rejects 0x81
   unfolding byId ring
   ring-refused size mask high low volume tag fault t = rw (t, values-refused (u .settings) mask high low volume fault)
@@ -198,7 +198,7 @@ module _ (u : TagUnit) (w : List ℕ) (l : RecordLines u) where
   wrong-ring {mask} {high} {low} {volume} (signed {size} {tag} s live held rings e) fault =
       after-tag s 0x81 live held
       (ring-refused size mask high low volume tag fault
-      (or-right (skips (u .protection)) (tag-passes (keyFrom 0x02 (u .identity .bytes)) (u .nonce .bytes) 0x05 size tag (mask ∷ high ∷ low ∷ volume ∷ []) e)))
+      (or-right (skips (u .protection)) (tag-passes (keyFrom 0x02 (u .identity .bytes)) (u .nonces .newest) 0x05 size tag (mask ∷ high ∷ low ∷ volume ∷ []) e)))
   wrong-ring {mask} {high} {low} {volume} (skipped {size} {tag} s live held k) fault =
       after-tag s 0x81 live held (ring-refused size mask high low volume tag fault (or-left _ (ap skips (k .1))))
 
@@ -206,7 +206,7 @@ module _ (u : TagUnit) (w : List ℕ) (l : RecordLines u) where
   unfolding byId protect derivedKey
   wrong-flag {flag} (signed {size} {tag} s live held protects e) high =
       after-tag s 0x81 live held
-      (rw (tag-passes (keyFrom 0x03 (u .identity .bytes)) (u .nonce .bytes) 0x07 size tag (flag ∷ []) e, lt-leb flag 1 high))
+      (rw (tag-passes (keyFrom 0x03 (u .identity .bytes)) (u .nonces .newest) 0x07 size tag (flag ∷ []) e, lt-leb flag 1 high))
   wrong-flag (skipped s live held k) high = absurd (omega (arith, k .0))
 
   neither : u .consent ≡ 0 → u .pairing ≡ false → ltb 0 (u .consent) || u .pairing ≡ false
@@ -218,18 +218,18 @@ module _ (u : TagUnit) (w : List ℕ) (l : RecordLines u) where
   unfolding byId recoverKey derivedKey
   no-consent (signed {size} {tag} s live held recovers e) none-left off =
       after-tag s 0x82 live held
-      (rw (owned-by-some held .1, tag-passes (keyFrom 0x01 (u .identity .bytes)) (u .nonce .bytes) 0x04 size tag [] e, neither none-left off))
+      (rw (owned-by-some held .1, tag-passes (keyFrom 0x01 (u .identity .bytes)) (u .nonces .newest) 0x04 size tag [] e, neither none-left off))
   no-consent (skipped s live held k) none-left off = absurd (omega (arith, k .0))
 
   pub reason-refuses : {n : ℕ} → Reason u w n → judged u w ≡ rejects n
   unfolding judged
   reason-refuses (illegalShape h) = rw (fails (shapeLegal w) (λ e. h _ _ _ _ (legal-sent w e)))
   reason-refuses (noLiveNonce s e) = judged-as s ∙ rw e
-  reason-refuses (noIdentityKey {id} s h e) = judged-as s ∙ rw (le-ltb id 3 h, e) (same-either (u .nonce .live) (rejects 0x80))
+  reason-refuses (noIdentityKey {id} s h e) = judged-as s ∙ rw (le-ltb id 3 h, e) (same-either (u .nonces .live) (rejects 0x80))
   reason-refuses (nobodysTag {tag = tag} {additional = additional} s low h) = unauthenticated s (nobodys tag additional (s .legal) low h)
   reason-refuses (noOwner {size} {tag} {additional} s e) = unauthenticated s (set-by-nobody size tag additional e)
   reason-refuses (wrongTag {id} {size} {tag} {additional} {key} s k unskipped h) =
-      unauthenticated s (wrong-tag size tag additional k unskipped (tag-fails key (u .nonce .bytes) id size tag additional h))
+      unauthenticated s (wrong-tag size tag additional k unskipped (tag-fails key (u .nonces .newest) id size tag additional h))
   reason-refuses (proofOfNoKey {tag} {additional} s e) = unauthenticated s (not-replaced 48 tag additional (of-no-key tag additional e))
   reason-refuses (keyWithoutProof {tag} {additional} s e) = unauthenticated s (not-replaced 40 tag additional (unproven tag additional e))
   reason-refuses (wrongProofOfHeld {tag} {additional} s h) = unauthenticated s (not-replaced 48 tag additional (wrongly-proven tag additional h))

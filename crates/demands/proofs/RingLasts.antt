@@ -24,7 +24,7 @@ use Rattle.demands.proofs.RingRuns.{ran-unit, next-formed, ring-run}
 -- From whatever a run has come to
 lasting : (w : World) (bytes : List ℕ) (room : ℕ) (l : List Act) → Starts bytes room (w .unit)
     → NoneIn Disturbs l (step (writes bytes room) (w .unit) .unit)
-    → Lasts (askedIn bytes) (w .unit .identity .bytes) (w .unit .nonce .bytes) (tenthsIn l)
+    → Lasts (askedIn bytes) (w .unit .identity .bytes) (w .unit .nonces .newest) (tenthsIn l)
     (runs slept (writes bytes room ∷ []) w)
     (runs slept (writes bytes room ∷ l) w)
 unfolding runs
@@ -35,7 +35,7 @@ lasting w bytes room l s free =
     let b = begun (w .unit) bytes room s in
     let ringing = ap (λ (x : TagUnit). x .sound) unit ∙ b .sounds in
     let g =
-    ring-run (b .mask) (b .volume) (w .unit .identity .bytes) (w .unit .nonce .bytes) l v (askedIn bytes)
+    ring-run (b .mask) (b .volume) (w .unit .identity .bytes) (w .unit .nonces .newest) l v (askedIn bytes)
     (next-formed a w (start-formed (w .unit) bytes room s))
     (record {
       ringing = ringing;
@@ -94,7 +94,7 @@ as-read s h bytes room l starts free =
       found .0,
       found .1,
       same-ring (ap (λ (x : TagUnit). x .identity .bytes) unit)
-          (ap (λ (x : TagUnit). x .nonce .bytes) unit ∙ nonces .whose s h (found .0) (found .1))
+          (ap (λ (x : TagUnit). x .nonces .newest) unit ∙ nonces .whose s h (found .0) (found .1))
           (sym (runs-append h (a ∷ []) (start (fresh s))))
           (sym (runs-append h (a ∷ l) (start (fresh s))))
           ring,

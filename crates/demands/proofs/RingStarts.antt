@@ -28,7 +28,7 @@ pub record Begun (u v : TagUnit) (t : ℕ) : Type 0 where
   pub mask : ℕ
   pub volume : ℕ
   pub sounds : v .sound ≡ Sound.Ringing mask volume t
-  pub nonce : v .«ring_nonce» ≡ u .nonce .bytes
+  pub nonce : v .«ring_nonce» ≡ u .nonces .newest
   pub identity : v .identity ≡ u .identity
 
 -- the shape of a 0x05 is fourteen bytes

@@ -29,7 +29,7 @@ timeout-bytes u = refl
 -- what time leaves alone
 pub record Aside (u v : TagUnit) : Type 0 where
   pub settings : v .settings ≡ u .settings
-  pub nonce : v .nonce ≡ u .nonce
+  pub nonce : v .nonces ≡ u .nonces
   pub accounts : v .accounts ≡ u .accounts
   pub identity : v .identity ≡ u .identity
   pub waiting : v .waiting ≡ u .waiting

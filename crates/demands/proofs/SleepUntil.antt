@@ -14,7 +14,8 @@ use Rattle.sizes.specs.Sizes.{window, answerRoom}
 use Rattle.laws.specs.Answer.{Result, gives, refuses}
 use Rattle.unit.specs.declared.TagUnit.{TagUnit}
 use Rattle.unit.specs.declared.Sound.{Sound}
-use Rattle.unit.specs.WellFormed.{wellFormed, settingsLegal, accountsLegal, ownerLegal, identityLegal, nonceLegal, soundLegal, identifierLegal, heldKeys}
+use Rattle.nonces.specs.Nonces.{issuedNonces, noncesLegal}
+use Rattle.unit.specs.WellFormed.{wellFormed, settingsLegal, accountsLegal, ownerLegal, identityLegal, soundLegal, identifierLegal, heldKeys}
 use Rattle.unit.specs.Outcome.{Outcome, giving, refusing, formed, answering}
 use Rattle.laws.specs.Bytes.{allZero}
 use Rattle.tables.specs.Rows.{rows, among, distinct}
@@ -234,7 +235,7 @@ rows-hold [] h = tt
 rows-hold (r ∷ rs) h = (row-names r (and-left _ _ h), rows-hold rs (and-right (right r) _ h))
 
 computed : allRight table ≡ true
-unfolding table wellFormed settingsLegal accountsLegal ownerLegal identityLegal nonceLegal soundLegal identifierLegal heldKeys rows distinct among allZero
+unfolding table wellFormed settingsLegal accountsLegal ownerLegal identityLegal noncesLegal issuedNonces soundLegal identifierLegal heldKeys rows distinct among allZero
 computed = refl
 
 pub sleep-until : SleepUntil

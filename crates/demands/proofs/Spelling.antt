@@ -28,6 +28,7 @@ use Rattle.unit.specs.WellFormed.{wellFormed, heldKeys, ownerKey}
 use Rattle.unit.proofs.Lines.{lines, Lines, held-count, owner-held, ring-held, identifier-held}
 use Rattle.provisioning.specs.Provisioning.{parameters, wireByte, claimed, isKey}
 use Rattle.ringing.specs.Ringing.{ringMask, ringLegal, allOfNone, askedTimeout, soundState}
+use Rattle.demands.proofs.RecordLines.{key-at}
 use Rattle.demands.specs.Spelled.{keyAtPlace, OwnedWith}
 use Rattle.demands.specs.Accepted.{signedByte, parameterBytes, ownerBit, ownerThen, standing, ringable, Means, whole, itself, RingLegal, ringBytes, soundBytes}
 
@@ -105,13 +106,7 @@ pub stop-legal : (s : Settings) (high low volume : ℕ) → s .components ≤ 3 
 unfolding ringLegal
 stop-legal s high low volume few h = rw (low-inside (s .components) 0 few (omega arith), le-leb volume 3 h)
 
--- The account keys by their places in the table; the owner's
-pub key-at : (u : TagUnit) (p : ℕ) → p < u .accounts .count → getD (heldKeys (u .accounts)) p [] ≡ keyAtPlace u p
-unfolding heldKeys
-key-at u p h =
-    let there : p * 16 ≡ 16 * p = omega arith in
-    row-at 16 (u .accounts .count) (u .accounts .keys) p h ∙ rw there
-
+-- The owner's key by its place in the table
 pub owner-at : (u : TagUnit) (key : List ℕ) → wellFormed u ≡ true → OwnedWith u key → ownerKey (u .accounts) ≡ some key
 unfolding ownerKey heldKeys
 owner-at u key right (p, o, k) = rw (o, key-at u p (owner-held (lines u right) p o), k)

@@ -22,7 +22,8 @@ use Rattle.ringing.specs.Ringing.{ring, rung, readSound}
 use Rattle.ringing.specs.Protecting.{protect, unprotect}
 use Rattle.requests.specs.Write.{byId, judged, written}
 use Rattle.time.specs.Time.{clockOn, endsNext, soundOn, ringOn, oneTenth, timeoutNotice, afterTenth, tenths}
-use Rattle.tag.specs.Own.{nonceFits, issuing, pressed, charged, keeping, lending, showing}
+use Rattle.nonces.specs.Nonces.{nonceFits}
+use Rattle.tag.specs.Own.{issuing, pressed, charged, keeping, lending, showing}
 use Rattle.tag.specs.Calls.{Call, read, write, button, pairing, battery, accountKey, disconnect, identifier, frame, own, Act, calls, waits}
 use Rattle.demands.specs.History.{step}
 use Rattle.demands.specs.Time.{World, called, slept, ran, runs}
@@ -34,7 +35,7 @@ use Rattle.demands.proofs.RingRuns.{next-formed}
 pub record Beside (u v : TagUnit) : Type 0 where
   pub settings : v .settings ≡ u .settings
   pub clock : v .clock ≡ u .clock
-  pub nonce : v .nonce ≡ u .nonce
+  pub nonce : v .nonces ≡ u .nonces
   pub accounts : v .accounts ≡ u .accounts
   pub identity : v .identity ≡ u .identity
   pub sound : v .sound ≡ u .sound
@@ -113,7 +114,7 @@ beside-is {u} {v} b = λ i.
     record {
       settings = b .settings i;
       clock = b .clock i;
-      nonce = b .nonce i;
+      nonces = b .nonce i;
       accounts = b .accounts i;
       identity = b .identity i;
       waiting = v .waiting;

@@ -21,7 +21,7 @@ use Rattle.unit.specs.Ringable.{inside}
 use Rattle.unit.specs.WellFormed.{wellFormed, heldKeys, rowOf, ownerKey, owned}
 use Rattle.unit.specs.Change.{spent, withAccounts}
 use Rattle.unit.proofs.Lines.{RingLines, VolumeLines, lines, held-count, settings-legal}
-use Rattle.unit.proofs.Kept.{fresh-formed, clock-kept, battery-kept, pairing-kept, nonce-kept, spent-kept, owner-kept, waiting-kept, silenced-kept, ring-kept, protection-kept}
+use Rattle.unit.proofs.Kept.{fresh-formed, clock-kept, battery-kept, pairing-kept, nonces-kept, spent-kept, owner-kept, waiting-kept, silenced-kept, ring-kept, protection-kept}
 use Rattle.authentication.specs.Judgement.{Judgement, accepts, rejects, lastNonce, tagged, usedKey, onlyIf, signedByOwner, under, concluded}
 use Rattle.provisioning.specs.Provisioning.{readParameters, readState, setKey, clearKey, recoverKey, claimed, awaiting, cleared}
 use Rattle.ringing.specs.Ringing.{ring, rung, readSound, skips, ringLegal, ringMask, allOfNone, askedVolume, askedTimeout, heldVolume}
@@ -119,7 +119,7 @@ module _ (u : TagUnit) (w : wellFormed u ≡ true) (q : Request) where
   cleared-formed =
       let l = lines u w in
       let start = fresh-formed (u .settings) (settings-legal (u .settings) (l .settings)) in
-      clock-kept _ (nonce-kept _ (battery-kept _ (pairing-kept _ start (u .pairing)) (u .battery) (l .battery)) (u .nonce) (l .nonce))
+      clock-kept _ (nonces-kept _ (battery-kept _ (pairing-kept _ start (u .pairing)) (u .battery) (l .battery)) (u .nonces) (l .nonces))
       (u .clock) (l .tenth)
 
   clear-forms : Forms (clearKey u q)
@@ -192,7 +192,7 @@ written-kept u w b =
     concluded-formed (spent u) (spent-kept u w) (judged u b)
     (tested Forms (shapeLegal b)
     (λ s.
-    tested Forms (u .nonce .live)
+    tested Forms (u .nonces .live)
     (λ l. tested Forms (keyThere u (parsed b)) (λ k. by-id-forms (spent u) (spent-kept u w) (parsed b) k) (λ n. rejected))
     (λ n. rejected))
     (λ n. rejected))

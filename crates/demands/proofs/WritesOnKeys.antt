@@ -30,7 +30,7 @@ use Rattle.demands.proofs.Guards.{Met, barred, passed, met, not-both}
 
 -- the same nonce, table of account keys, key in force and waiting key; and the same owner's key, where there was an owner
 pub record Alone (u v : TagUnit) : Type 0 where
-  pub nonce : v .nonce ≡ u .nonce
+  pub nonce : v .nonces ≡ u .nonces
   pub table : v .accounts .keys ≡ u .accounts .keys
   pub identity : v .identity ≡ u .identity
   pub waiting : v .waiting ≡ u .waiting
@@ -156,11 +156,11 @@ module _ (u : TagUnit) (q : Request) where
 -- How a write that passed 6 and 2 ended
 pub data Ended (u : TagUnit) (w : List ℕ) : Outcome → Type 0 where
   turned : (n : ℕ) → Ended u w (refusing n (spent u))
-  served : {v : TagUnit} {answer : List ℕ} → shapeLegal w ≡ true → u .nonce .live ≡ true → Did (spent u) (parsed w) (accepts v answer)
+  served : {v : TagUnit} {answer : List ℕ} → shapeLegal w ≡ true → u .nonces .live ≡ true → Did (spent u) (parsed w) (accepts v answer)
       → Ended u w (giving answer v)
 
 module _ (u : TagUnit) (w : List ℕ) where
-  concluded-so : {j : Judgement} → shapeLegal w ≡ true → u .nonce .live ≡ true → Did (spent u) (parsed w) j → Ended u w (concluded (spent u) j)
+  concluded-so : {j : Judgement} → shapeLegal w ≡ true → u .nonces .live ≡ true → Did (spent u) (parsed w) j → Ended u w (concluded (spent u) j)
   concluded-so s l (refused n) = turned n
   concluded-so s l (set key e o) = served s l (set key e o)
   concluded-so s l (clear e) = served s l (clear e)
@@ -173,7 +173,7 @@ module _ (u : TagUnit) (w : List ℕ) where
       let P : Judgement → Type 0 = λ j. Ended u w (concluded (spent u) j) in
       choose P (shapeLegal w)
       (λ s.
-      choose P (u .nonce .live)
+      choose P (u .nonces .live)
       (λ l. choose P (keyThere u (parsed w)) (λ k. concluded-so s l (by-id (spent u) (parsed w))) (λ k. turned 0x80))
       (λ l. turned 0x80))
       (λ s. turned 0x81)
@@ -182,7 +182,7 @@ module _ (u : TagUnit) (w : List ℕ) where
 pub record Served (u : TagUnit) (w : Written) (room : ℕ) (answer : List ℕ) : Type 0 where
   pub formed : wellFormed u ≡ true
   pub legal : shapeLegal (w .bytes) ≡ true
-  pub live : u .nonce .live ≡ true
+  pub live : u .nonces .live ≡ true
   pub did : Did (spent u) (parsed (w .bytes)) (accepts (step (calls (write w) room) u .unit) answer)
 
 module _ (w : Written) (room : ℕ) (u : TagUnit) (answer : List ℕ) where

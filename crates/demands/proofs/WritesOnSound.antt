@@ -206,11 +206,11 @@ module _ (u : TagUnit) (w : wellFormed u ≡ true) (q : Request) where
 -- How a write that passed 6 and 2 ended
 pub data Written (u : TagUnit) (w : List ℕ) : Outcome → Type 0 where
   turned : (n : ℕ) → Written u w (refusing n (spent u))
-  served : {v : TagUnit} {answer : List ℕ} → shapeLegal w ≡ true → u .nonce .live ≡ true → Authorised (spent u) (parsed w)
+  served : {v : TagUnit} {answer : List ℕ} → shapeLegal w ≡ true → u .nonces .live ≡ true → Authorised (spent u) (parsed w)
       → Effect (spent u) (parsed w) v answer → Written u w (giving answer v)
 
 module _ (u : TagUnit) (w : List ℕ) where
-  concluded-so : {j : Judgement} → shapeLegal w ≡ true → u .nonce .live ≡ true → Judged (spent u) (parsed w) j → Written u w (concluded (spent u) j)
+  concluded-so : {j : Judgement} → shapeLegal w ≡ true → u .nonces .live ≡ true → Judged (spent u) (parsed w) j → Written u w (concluded (spent u) j)
   concluded-so s l (refused n) = turned n
   concluded-so s l (granted a e) = served s l a e
 
@@ -220,7 +220,7 @@ module _ (u : TagUnit) (w : List ℕ) where
       let P : Judgement → Type 0 = λ j. Written u w (concluded (spent u) j) in
       tested P (shapeLegal w)
       (λ s.
-      tested P (u .nonce .live)
+      tested P (u .nonces .live)
       (λ l. tested P (keyThere u (parsed w)) (λ k. concluded-so s l (judged-so (spent u) (spent-kept u formed) (parsed w))) (λ k. turned 0x80))
       (λ l. turned 0x80))
       (λ s. turned 0x81)
@@ -230,7 +230,7 @@ pub record Admitted (u : TagUnit) (w : List ℕ) (room : ℕ) (v : TagUnit) (ans
   pub fits : 42 ≤ room
   pub formed : wellFormed u ≡ true
   pub legal : shapeLegal w ≡ true
-  pub live : u .nonce .live ≡ true
+  pub live : u .nonces .live ≡ true
   pub authorised : Authorised (spent u) (parsed w)
   pub effect : Effect (spent u) (parsed w) v answer
 

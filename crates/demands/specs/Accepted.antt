@@ -18,7 +18,7 @@ use Rattle.unit.specs.declared.Protection.{Protection}
 use Rattle.unit.specs.WellFormed.{wellFormed}
 use Rattle.tag.specs.Calls.{read, Act, calls}
 use Rattle.demands.specs.History.{step, writes}
-use Rattle.demands.specs.Spelled.{keyFrom, proofFrom, tagFrom, requestFrom, answerFrom, keyAtPlace, OwnedWith, AllBut, settings, clock, nonce, accounts, identity, waiting, sound, ringNonce, protection, consent, pairing, identifier, NonceSpent, OnlySpends}
+use Rattle.demands.specs.Spelled.{keyFrom, proofFrom, tagFrom, requestFrom, answerFrom, keyAtPlace, nonceAtPlace, OwnedWith, AllBut, settings, clock, nonce, accounts, identity, waiting, sound, ringNonce, protection, consent, pairing, identifier, NonceSpent, OnlySpends}
 
 -- an act is served: it gives this answer, and the unit after it is as said
 pub record Serves (a : Act) (u : TagUnit) (answer : List ℕ) (Left : TagUnit → Type 0) : Type 0 where
@@ -28,7 +28,7 @@ pub record Serves (a : Act) (u : TagUnit) (answer : List ℕ) (Left : TagUnit �
 -- a unit that takes writes: well formed, with a live nonce; and room for the answer
 pub record Open (u : TagUnit) (room : ℕ) : Type 0 where
   pub formed : wellFormed u ≡ true
-  pub live : u .nonce .live ≡ true
+  pub live : u .nonces .live ≡ true
   pub fits : 42 ≤ room
 
 -- What a phone sends and is answered with the unit's nonce; and by which keys: "Recovery, ring and protection keys .. 0x01, 0x02, 0x03
@@ -36,10 +36,10 @@ pub record Open (u : TagUnit) (room : ℕ) : Type 0 where
 -- old key, or none on a new unit"
 module _ (u : TagUnit) where
   abbrev pub sent : ℕ → List ℕ → List ℕ → List ℕ
-  sent id key additional = requestFrom id key (u .nonce .bytes) additional
+  sent id key additional = requestFrom id key (u .nonces .newest) additional
 
   abbrev pub answer : ℕ → List ℕ → List ℕ → List ℕ
-  answer id key «data» = answerFrom id key (u .nonce .bytes) «data»
+  answer id key «data» = answerFrom id key (u .nonces .newest) «data»
 
   abbrev pub recoveryKeyOf : List ℕ
   recoveryKeyOf = keyFrom 0x01 (u .identity .bytes)
@@ -51,13 +51,13 @@ module _ (u : TagUnit) where
   protectionKeyOf = keyFrom 0x03 (u .identity .bytes)
 
   abbrev pub keyProofOf : List ℕ
-  keyProofOf = proofFrom (u .identity .bytes) (u .nonce .bytes)
+  keyProofOf = proofFrom (u .identity .bytes) (u .nonces .newest)
 
 -- "the first held key whose tag matches, in order of arrival": the key at place p, and no earlier one, makes this tag for this write
 abbrev pub First : TagUnit → ℕ → ℕ → Type 0
 First u id p =
     (p < u .accounts .count)
-    × ((i : ℕ) → i < p → tagFrom (keyAtPlace u i) (u .nonce .bytes) id 8 [] ≡ tagFrom (keyAtPlace u p) (u .nonce .bytes) id 8 [] → ⊥)
+    × ((i : ℕ) → i < p → tagFrom (keyAtPlace u i) (u .nonces .newest) id 8 [] ≡ tagFrom (keyAtPlace u p) (u .nonces .newest) id 8 [] → ⊥)
 
 -- "power as one signed byte, two's complement"
 abbrev pub signedByte : ℤ → ℕ
@@ -171,7 +171,7 @@ ringBytes asked timeout volume = asked ∷ (timeout / 256) ∷ (timeout % 256) �
 pub record Rings (mask timeout volume : ℕ) (u v : TagUnit) : Type 0 where
   pub nonceSpent : NonceSpent u v
   pub soundIs : v .sound ≡ Sound.Ringing mask (cond (eqb (u .settings .selectable) 0) 0 volume) timeout
-  pub nonceKept : v .«ring_nonce» ≡ u .nonce .bytes
+  pub nonceKept : v .«ring_nonce» ≡ u .nonces .newest
   pub rest : AllBut (nonce ∷ sound ∷ ringNonce ∷ []) u v
 
 pub record Stopped (u v : TagUnit) : Type 0 where
@@ -190,13 +190,17 @@ pub record Protects (p : Protection) (u v : TagUnit) : Type 0 where
   pub rest : AllBut (nonce ∷ protection ∷ []) u v
 
 pub record Issued (lent : List ℕ) (u v : TagUnit) : Type 0 where
-  pub nonceIs : v .nonce ≡ record { held = true; live = true; bytes = lent }
+  pub isNewest : v .nonces .newest ≡ lent
+  pub isLive : v .nonces .live ≡ true
+  pub oneMore : u .nonces .count < 16 → v .nonces .count ≡ u .nonces .count + 1
+  pub noMore : u .nonces .count ≡ 16 → v .nonces .count ≡ 16
+  pub othersBehind : v .nonces .earlier ≡ take 120 (u .nonces .newest ++ u .nonces .earlier)
   pub rest : AllBut (nonce ∷ []) u v
 
 pub record Accepted : Type 0 where
-  -- "Read gives 0x01 and the lent nonce (9 bytes) and makes that nonce live, replacing any other"; 3 for one "equal to the last issued"
+  -- "Read gives 0x01 and the lent nonce (9 bytes) and makes that nonce live, replacing any other"; not one that "equals any of the last 16 issued"
   pub nonceRead : (u : TagUnit) (room : ℕ) (lent : List ℕ) → wellFormed u ≡ true → 42 ≤ room → length lent ≡ 8
-      → (u .nonce .held ≡ true → u .nonce .bytes ≡ lent → ⊥)
+      → ((p : ℕ) → p < u .nonces .count → nonceAtPlace u p ≡ lent → ⊥)
       → Serves (calls (read lent) room) u (0x01 ∷ lent) (Issued lent u)
   -- "0x00 data, encrypted by the account key used"
   pub parametersRead : (u : TagUnit) (room p : ℕ) → Open u room → First u 0x00 p
@@ -224,19 +228,19 @@ pub record Accepted : Type 0 where
   pub rings : (u : TagUnit) (room asked mask timeout volume : ℕ) → Open u room → u .identity .held ≡ true
       → RingLegal (u .settings .components) asked mask timeout volume
       → Serves (writes (sent u 0x05 (ringKeyOf u) (ringBytes asked timeout volume)) room) u
-      (startNotice u (u .nonce .bytes) 0 mask timeout)
+      (startNotice u (u .nonces .newest) 0 mask timeout)
       (Rings mask timeout volume u)
   pub stops : (u : TagUnit) (room high low volume : ℕ) → Open u room → u .identity .held ≡ true → volume ≤ 3
-      → Serves (writes (sent u 0x05 (ringKeyOf u) (0 ∷ high ∷ low ∷ volume ∷ [])) room) u (stopNotice u (u .nonce .bytes) 4) (Stopped u)
+      → Serves (writes (sent u 0x05 (ringKeyOf u) (0 ∷ high ∷ low ∷ volume ∷ [])) room) u (stopNotice u (u .nonces .newest) 4) (Stopped u)
   -- "For 0x05 with protection and skip on, any tag passes"
   pub skipRings : (u : TagUnit) (room asked mask timeout volume : ℕ) (tag : List ℕ) → Open u room → u .identity .held ≡ true
       → u .protection ≡ Protection.On true → length tag ≡ 8 → RingLegal (u .settings .components) asked mask timeout volume
       → Serves (writes (0x05 ∷ 12 ∷ tag ++ ringBytes asked timeout volume) room) u
-      (startNotice u (u .nonce .bytes) 0 mask timeout)
+      (startNotice u (u .nonces .newest) 0 mask timeout)
       (Rings mask timeout volume u)
   pub skipStops : (u : TagUnit) (room high low volume : ℕ) (tag : List ℕ) → Open u room → u .identity .held ≡ true
       → u .protection ≡ Protection.On true → length tag ≡ 8 → volume ≤ 3
-      → Serves (writes (0x05 ∷ 12 ∷ tag ++ (0 ∷ high ∷ low ∷ volume ∷ [])) room) u (stopNotice u (u .nonce .bytes) 4) (Stopped u)
+      → Serves (writes (0x05 ∷ 12 ∷ tag ++ (0 ∷ high ∷ low ∷ volume ∷ [])) room) u (stopNotice u (u .nonces .newest) 4) (Stopped u)
   -- "0x05, 0x06: ring key"
   pub soundRead : (u : TagUnit) (room : ℕ) → Open u room → u .identity .held ≡ true
       → Serves (writes (sent u 0x06 (ringKeyOf u) []) room) u (answer u 0x06 (ringKeyOf u) (soundBytes (u .sound))) (OnlySpends u)

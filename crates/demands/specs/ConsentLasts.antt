@@ -27,18 +27,18 @@ pub record Ready (u : TagUnit) (key : List ℕ) (room : ℕ) : Type 0 where
   pub formed : wellFormed u ≡ true
   pub identityHeld : u .identity .held ≡ true
   pub owned : OwnedWith u key
-  pub live : u .nonce .live ≡ true
+  pub live : u .nonces .live ≡ true
   pub fits : 42 ≤ room
 
 -- the 0x04 that a phone sends to it
 abbrev pub recovery : TagUnit → List ℕ
-recovery u = requestFrom 0x04 (keyFrom 0x01 (u .identity .bytes)) (u .nonce .bytes) []
+recovery u = requestFrom 0x04 (keyFrom 0x01 (u .identity .bytes)) (u .nonces .newest) []
 
 -- "Data: the identity key, two blocks encrypted with the owner key."
 abbrev pub Served : TagUnit → List ℕ → ℕ → Type 0
 Served u key room =
     step (writes (recovery u) room) u .result
-    ≡ gives (answerFrom 0x04 (keyFrom 0x01 (u .identity .bytes)) (u .nonce .bytes)
+    ≡ gives (answerFrom 0x04 (keyFrom 0x01 (u .identity .bytes)) (u .nonces .newest)
     (AES128 key (take 16 (u .identity .bytes)) ++ AES128 key (take 16 (drop 16 (u .identity .bytes)))))
 
 -- "0x82 | no user consent"

@@ -20,6 +20,9 @@
 -- And of the change that keeps a new key waiting: "Demands 2 and 3 count the disconnect as one more event, and recovery speaks of the key in
 -- force."
 --
+-- And of a random source that is stuck: "Refusal 3 must be given when the lent nonce equals any of the last 16 issued, live or spent, a clear
+-- (0x03) included. The seventeenth back is accepted."
+--
 -- And of the number of tenths that it may sleep: "Show that any shorter sleep, cut as you like, gives no notification, the same frame or frame
 -- refusal, and the same yes or no on consent; and that at the named tenth at least one of those four things happens."
 use Rattle.demands.specs.Ends.{Demand1}
@@ -31,6 +34,7 @@ use Rattle.demands.specs.RecordLines.{WellFormedExactly}
 use Rattle.demands.specs.Events.{Events}
 use Rattle.demands.specs.FrameRead.{FrameRead}
 use Rattle.demands.specs.Nonces.{Demand2Nonces}
+use Rattle.demands.specs.NonceRepeats.{NonceRepeats}
 use Rattle.demands.specs.Recovery.{Demand2Recovery}
 use Rattle.demands.specs.RecoveryExample.{RecoveryExample}
 use Rattle.demands.specs.WaitingKey.{WaitingKey}
@@ -53,6 +57,7 @@ pub record Demands : Type 0 where
   pub events : Events
   pub framesRead : FrameRead
   pub nonces : Demand2Nonces
+  pub nonceRepeats : NonceRepeats
   pub recovered : Demand2Recovery
   pub recoveredOnce : RecoveryExample
   pub waitingKey : WaitingKey

@@ -30,7 +30,7 @@ PowerWithin (negsuc n) = n + 1 ≤ 100
 pub record Fresh (power : ℤ) (components selectable : ℕ) (v : TagUnit) : Type 0 where
   pub settingsAre : v .settings ≡ record { power = power; components = components; selectable = selectable }
   pub clockIs : v .clock ≡ record { seconds = 0; tenth = 0 }
-  pub noNonce : v .nonce ≡ record { held = false; live = false; bytes = replicate 8 0 }
+  pub noNonces : v .nonces ≡ record { count = 0; live = false; newest = replicate 8 0; earlier = replicate 120 0 }
   pub noAccounts : v .accounts ≡ record { count = 0; owner = Owner.Nobody; keys = replicate 80 0 }
   pub noIdentity : v .identity ≡ record { held = false; bytes = replicate 32 0 }
   pub noneWaits : NoneWaits v

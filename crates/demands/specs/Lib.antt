@@ -8,6 +8,7 @@ pub mod RecordLines
 pub mod RefusalOrder
 pub mod Events
 pub mod Nonces
+pub mod NonceRepeats
 pub mod Among
 pub mod Recovery
 pub mod Time

@@ -62,16 +62,16 @@ pub data Authenticated (u : TagUnit) (w nonce : List ℕ) : Type 0 where
 
 pub record Demand2Nonces : Type 0 where
   -- live exactly then, and it is that read's
-  pub live : (s : Settings) (h : List Act) → after h (fresh s) .nonce .live ≡ true → (nonce : List ℕ) × Issue (fresh s) h nonce
-  pub issued : (s : Settings) (h : List Act) (nonce : List ℕ) → Issue (fresh s) h nonce → after h (fresh s) .nonce .live ≡ true
-  pub whose : (s : Settings) (h : List Act) (nonce : List ℕ) → Issue (fresh s) h nonce → after h (fresh s) .nonce .bytes ≡ nonce
+  pub live : (s : Settings) (h : List Act) → after h (fresh s) .nonces .live ≡ true → (nonce : List ℕ) × Issue (fresh s) h nonce
+  pub issued : (s : Settings) (h : List Act) (nonce : List ℕ) → Issue (fresh s) h nonce → after h (fresh s) .nonces .live ≡ true
+  pub whose : (s : Settings) (h : List Act) (nonce : List ℕ) → Issue (fresh s) h nonce → after h (fresh s) .nonces .newest ≡ nonce
   -- so an accepted write has a read of its own, nothing that spends or issues between, and a tag made with that nonce; which is then not live
   pub own : (s : Settings) (h : List Act) (w : Written) (room : ℕ)
       → Succeeds (calls (write w) room) (after h (fresh s))
       → (nonce : List ℕ) × Issue (fresh s) h nonce × Authenticated (after h (fresh s)) (w .bytes) nonce
   pub once : (s : Settings) (h : List Act) (w : Written) (room : ℕ)
       → PassesGuards (calls (write w) room) (after h (fresh s))
-      → after (h ++ (calls (write w) room ∷ [])) (fresh s) .nonce .live ≡ true
+      → after (h ++ (calls (write w) room ∷ [])) (fresh s) .nonces .live ≡ true
       → ⊥
   -- of two accepted writes the later has its read between them
   pub between : (s : Settings) (g : List Act) (v : Written) (firstRoom : ℕ) (h : List Act) (w : Written) (room : ℕ)

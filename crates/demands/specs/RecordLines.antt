@@ -4,7 +4,7 @@
 use Prim.Native.Nat.{ℕ, _*_, _/_, _%_, _^_, _≤_, _<_}
 use mathlib.Core.Path.{_≡_}
 use mathlib.Core.Bool.{Bool, true, false}
-use mathlib.Core.List.{List}
+use mathlib.Core.List.{List, _++_}
 use lib.ListN.{length, getD}
 use lib.IntN.{pos, negℤ}
 use lib.Signed.{_≤ℤ_}
@@ -13,7 +13,7 @@ use Rattle.unit.specs.declared.Owner.{Owner}
 use Rattle.unit.specs.declared.Sound.{Sound}
 use Rattle.unit.specs.declared.Protection.{Protection}
 use Rattle.unit.specs.WellFormed.{wellFormed}
-use Rattle.demands.specs.Spelled.{keyAtPlace}
+use Rattle.demands.specs.Spelled.{keyAtPlace, nonceAtPlace}
 
 -- "room for absent things not zero, is not well formed": every byte of the room is 0
 abbrev pub Zeros : List ℕ → Type 0
@@ -51,9 +51,13 @@ pub record RecordLines (u : TagUnit) : Type 0 where
   -- "A waiting key without an owner isn't well formed." Without a key in force it is, and so is one that equals it
   pub waitingOwned : u .waiting .held ≡ true → u .accounts .owner ≡ Owner.Nobody → ⊥
   pub noneWaits : u .waiting .held ≡ false → Zeros (u .waiting .bytes)
-  -- "The last issued nonce, if any, and whether it is live": "live without a nonce" is not well formed
-  pub notLive : u .nonce .held ≡ false → u .nonce .live ≡ false
-  pub noNonce : u .nonce .held ≡ false → Zeros (u .nonce .bytes)
+  -- "A well-formed record holds up to 16, all distinct"; "live without a nonce" is not well formed
+  pub newestRoom : length (u .nonces .newest) ≡ 8
+  pub earlierRoom : length (u .nonces .earlier) ≡ 120
+  pub noncesHeld : u .nonces .count ≤ 16
+  pub noNonceTwice : (i j : ℕ) → i < j → j < u .nonces .count → nonceAtPlace u i ≡ nonceAtPlace u j → ⊥
+  pub noOtherNonces : (i : ℕ) → 8 * u .nonces .count ≤ i → getD (u .nonces .newest ++ u .nonces .earlier) i 0 ≡ 0
+  pub notLive : u .nonces .count ≡ 0 → u .nonces .live ≡ false
   -- "Sound: silent, or ringing .. and the nonce of the accepted ring, kept beside it."
   pub silent : u .sound ≡ Sound.Silent → Zeros (u .«ring_nonce»)
   pub ringing : (mask volume left : ℕ) → u .sound ≡ Sound.Ringing mask volume left → RingLines u mask volume left

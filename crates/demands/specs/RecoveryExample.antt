@@ -17,7 +17,7 @@ use Rattle.demands.specs.History.{step, after, writes, Bytes, AllOfBytes
 use Rattle.demands.specs.Spelled.{keyFrom, requestFrom}
 use Rattle.demands.specs.Recovery.{SetBy, dataOf}
 
--- what is given: legal settings, an account key, the encrypted bytes, and three nonces, none the same as the one before it
+-- what is given: legal settings, an account key, the encrypted bytes, and three nonces, no two the same
 pub record Given (s : Settings) (key C n₁ n₂ n₃ : List ℕ) : Type 0 where
   pub legal : settingsLegal s ≡ true
   pub keyLong : length key ≡ 16
@@ -27,6 +27,7 @@ pub record Given (s : Settings) (key C n₁ n₂ n₃ : List ℕ) : Type 0 where
   pub long₃ : length n₃ ≡ 8
   pub second : n₁ ≡ n₂ → ⊥
   pub third : n₂ ≡ n₃ → ⊥
+  pub notFirst : n₁ ≡ n₃ → ⊥
   pub keyBytes : Bytes key
   pub encryptedBytes : Bytes C
   pub bytes₁ : Bytes n₁

@@ -13,7 +13,7 @@ use Rattle.unit.specs.declared.TagUnit.{TagUnit}
 use Rattle.unit.specs.WellFormed.{wellFormed}
 use Rattle.tag.specs.Calls.{newUnit, Written, read, write, button, battery, accountKey, identifier, frame, Act, calls, waits}
 use Rattle.demands.specs.History.{step}
-use Rattle.demands.specs.Spelled.{keyAtPlace, OnlySpends}
+use Rattle.demands.specs.Spelled.{keyAtPlace, nonceAtPlace, OnlySpends}
 use Rattle.demands.specs.Refused.{Reason}
 
 -- "Calls with answer bytes: read, write, button, elapsed, frame." The act, and how many it is lent
@@ -26,9 +26,9 @@ pub data Lent : Act → ℕ → Type 0 where
 
 -- a call's own refusals, on a well-formed unit. Button, elapsed, pairing and disconnect have none
 pub data Own (u : TagUnit) : Act → ℕ → Type 0 where
-  -- 3: "lent nonce not 8 bytes, or equal to the last issued"
+  -- 3: "lent nonce not 8 bytes"; "when the lent nonce equals any of the last 16 issued, live or spent"
   nonceLength : {nonce : List ℕ} {room : ℕ} → (length nonce ≡ 8 → ⊥) → Own u (calls (read nonce) room) 3
-  lastIssued : {nonce : List ℕ} {room : ℕ} → u .nonce .held ≡ true → nonce ≡ u .nonce .bytes → Own u (calls (read nonce) room) 3
+  nonceHeld : {nonce : List ℕ} {room : ℕ} (p : ℕ) → p < u .nonces .count → nonceAtPlace u p ≡ nonce → Own u (calls (read nonce) room) 3
   -- 0x80, 0x81, 0x82
   ofWrite : {w : Written} {room n : ℕ} → Reason u (w .bytes) n → Own u (calls (write w) room) n
   -- 1: "settings or battery out of range"

@@ -55,10 +55,10 @@ Skipped u id = (id ≡ 0x05) × (u .protection ≡ Protection.On true)
 
 -- a legal write that passed its tag: the nonce is live, the identity key is held, and the tag is the signer's or is not looked at
 pub data Tagged (u : TagUnit) (w : List ℕ) (id : ℕ) (additional : List ℕ) : Type 0 where
-  signed : {size : ℕ} {tag key : List ℕ} → Sent w id size tag additional → u .nonce .live ≡ true → u .identity .held ≡ true
-      → Signer u id key → tag ≡ tagFrom key (u .nonce .bytes) id size additional
+  signed : {size : ℕ} {tag key : List ℕ} → Sent w id size tag additional → u .nonces .live ≡ true → u .identity .held ≡ true
+      → Signer u id key → tag ≡ tagFrom key (u .nonces .newest) id size additional
       → Tagged u w id additional
-  skipped : {size : ℕ} {tag : List ℕ} → Sent w id size tag additional → u .nonce .live ≡ true → u .identity .held ≡ true
+  skipped : {size : ℕ} {tag : List ℕ} → Sent w id size tag additional → u .nonces .live ≡ true → u .identity .held ≡ true
       → Skipped u id
       → Tagged u w id additional
 
@@ -76,29 +76,29 @@ pub data Reason (u : TagUnit) (w : List ℕ) : ℕ → Type 0 where
   -- "An unknown ID or any other count: 0x81", whether a nonce is live or not
   illegalShape : Illegal w → Reason u w 0x81
   -- "no live nonce, 0x80 (house: skip-authentication ringing needs one too)"
-  noLiveNonce : {id size : ℕ} {tag additional : List ℕ} → Sent w id size tag additional → u .nonce .live ≡ false → Reason u w 0x80
+  noLiveNonce : {id size : ℕ} {tag additional : List ℕ} → Sent w id size tag additional → u .nonces .live ≡ false → Reason u w 0x80
   -- "IDs 0x03 to 0x08 without an identity key: 0x80."
   noIdentityKey : {id size : ℕ} {tag additional : List ℕ} → Sent w id size tag additional → 0x03 ≤ id → u .identity .held ≡ false
       → Reason u w 0x80
   -- "0x00, 0x01: any account key": it is the tag of none that is held
   nobodysTag : {id size : ℕ} {tag additional : List ℕ} → Sent w id size tag additional → id ≤ 0x01
-      → ((p : ℕ) → p < u .accounts .count → tag ≡ tagFrom (keyAtPlace u p) (u .nonce .bytes) id size additional → ⊥)
+      → ((p : ℕ) → p < u .accounts .count → tag ≡ tagFrom (keyAtPlace u p) (u .nonces .newest) id size additional → ⊥)
       → Reason u w 0x80
   -- "with no owner, 0x80"
   noOwner : {size : ℕ} {tag additional : List ℕ} → Sent w 0x02 size tag additional → u .accounts .owner ≡ Owner.Nobody → Reason u w 0x80
   -- a tag of another key, nonce, ID, length or data
   wrongTag : {id size : ℕ} {tag additional key : List ℕ} → Sent w id size tag additional → Signer u id key → (Skipped u id → ⊥)
-      → (tag ≡ tagFrom key (u .nonce .bytes) id size additional → ⊥)
+      → (tag ≡ tagFrom key (u .nonces .newest) id size additional → ⊥)
       → Reason u w 0x80
   -- "48: the last 8 bytes prove the held key. 40: none is held.": the one in force, for a write while a key waits "is still judged against the
   -- old key"
   proofOfNoKey : {tag additional : List ℕ} → Sent w 0x02 48 tag additional → u .identity .held ≡ false → Reason u w 0x80
   keyWithoutProof : {tag additional : List ℕ} → Sent w 0x02 40 tag additional → u .identity .held ≡ true → Reason u w 0x80
   wrongProofOfHeld : {tag additional : List ℕ} → Sent w 0x02 48 tag additional
-      → (drop 32 additional ≡ proofFrom (u .identity .bytes) (u .nonce .bytes) → ⊥)
+      → (drop 32 additional ≡ proofFrom (u .identity .bytes) (u .nonces .newest) → ⊥)
       → Reason u w 0x80
   -- the proof in 0x03 and 0x08, which alone have the length 16
-  wrongProof : {id : ℕ} {tag proof : List ℕ} → Sent w id 16 tag proof → (proof ≡ proofFrom (u .identity .bytes) (u .nonce .bytes) → ⊥)
+  wrongProof : {id : ℕ} {tag proof : List ℕ} → Sent w id 16 tag proof → (proof ≡ proofFrom (u .identity .bytes) (u .nonces .newest) → ⊥)
       → Reason u w 0x80
   -- values, only after the tag: of 0x05, and the flag byte of 0x07, "absent or 0 means skip off, 1 means on, others 0x81"
   wrongRing : {mask high low volume : ℕ} → Tagged u w 0x05 (mask ∷ high ∷ low ∷ volume ∷ [])

@@ -93,7 +93,7 @@ pub record RingLasts : Type 0 where
   pub silent : (u : TagUnit) (n room : ℕ) → wellFormed u ≡ true → 42 ≤ room → u .sound ≡ Sound.Silent → StaysSilent u (step (waits n room) u)
   -- over lists, from whatever a run has come to
   pub lasts : (w : World) (bytes : List ℕ) (room : ℕ) (l : List Act) → Starts bytes room (w .unit) → NoneIn Disturbs l (step (writes bytes room) (w .unit) .unit)
-      → Lasts (askedIn bytes) (w .unit .identity .bytes) (w .unit .nonce .bytes) (tenthsIn l)
+      → Lasts (askedIn bytes) (w .unit .identity .bytes) (w .unit .nonces .newest) (tenthsIn l)
       (runs slept (writes bytes room ∷ []) w)
       (runs slept (writes bytes room ∷ l) w)
   -- and from a fresh unit, with the nonce of the read behind the request

@@ -42,6 +42,10 @@ keyAtPlace u p = take 16 (drop (16 * p) (u .accounts .keys))
 abbrev pub OwnedWith : TagUnit → List ℕ → Type 0
 OwnedWith u key = (p : ℕ) × (u .accounts .owner ≡ Owner.Place p) × (keyAtPlace u p ≡ key)
 
+-- the issued nonce at a place, 8 bytes each, the newest first
+abbrev pub nonceAtPlace : TagUnit → ℕ → List ℕ
+nonceAtPlace u p = take 8 (drop (8 * p) (u .nonces .newest ++ u .nonces .earlier))
+
 -- The parts of a unit: `identity` is the identity key in force, `waiting` the one that waits
 pub data Part : Type 0 where
   settings clock nonce accounts identity waiting sound ringNonce protection consent pairing battery identifier : Part
@@ -74,7 +78,7 @@ abbrev pub AllBut : List Part → TagUnit → TagUnit → Type 0
 AllBut changed u v =
     Unless (isOneOf settings changed) (v .settings ≡ u .settings)
     × Unless (isOneOf clock changed) (v .clock ≡ u .clock)
-    × Unless (isOneOf nonce changed) (v .nonce ≡ u .nonce)
+    × Unless (isOneOf nonce changed) (v .nonces ≡ u .nonces)
     × Unless (isOneOf accounts changed) (v .accounts ≡ u .accounts)
     × Unless (isOneOf identity changed) (v .identity ≡ u .identity)
     × Unless (isOneOf waiting changed) (v .waiting ≡ u .waiting)
@@ -86,11 +90,12 @@ AllBut changed u v =
     × Unless (isOneOf battery changed) (v .battery ≡ u .battery)
     × Unless (isOneOf identifier changed) (v .identifier ≡ u .identifier)
 
--- "spends the nonce": v's nonce is u's, and not live
+-- "spends the nonce": v's nonces are u's, and none is live
 pub record NonceSpent (u v : TagUnit) : Type 0 where
-  pub held : v .nonce .held ≡ u .nonce .held
-  pub bytes : v .nonce .bytes ≡ u .nonce .bytes
-  pub dead : v .nonce .live ≡ false
+  pub count : v .nonces .count ≡ u .nonces .count
+  pub newest : v .nonces .newest ≡ u .nonces .newest
+  pub earlier : v .nonces .earlier ≡ u .nonces .earlier
+  pub dead : v .nonces .live ≡ false
 
 -- "spends the nonce and changes nothing else in the unit"
 pub record OnlySpends (u v : TagUnit) : Type 0 where

@@ -31,7 +31,8 @@ use Rattle.authentication.specs.Judgement.{Judgement, accepts, rejects, conclud
 use Rattle.requests.specs.Write.{written, judged}
 use Rattle.time.specs.Time.{tenths}
 use Rattle.time.specs.Passing.{Passes}
-use Rattle.tag.specs.Own.{nonceFits, issuing, pressed, charged, keeping, disconnected, lending, showing}
+use Rattle.nonces.specs.Nonces.{nonceFits}
+use Rattle.tag.specs.Own.{issuing, pressed, charged, keeping, disconnected, lending, showing}
 use Rattle.tag.specs.Calls.{newUnit, Call, read, write, button, pairing, battery, accountKey, disconnect, identifier, frame, own, lends, guarded, call, elapsed}
 use Rattle.stored.specs.Record.{decoded, encoded, recordSize}
 use Rattle.stored.proofs.RoundTrip.{other-length, noUnit-malformed}
@@ -102,7 +103,7 @@ pressed-untimed (Sound.Ringing mask volume left) u = untimed
 
 own-untimed : (c : Call) (u : TagUnit) → Untimed (own c u)
 unfolding own issuing written charged keeping disconnected lending showing
-own-untimed (read nonce) u = either (nonceFits u nonce) untimed untimed
+own-untimed (read nonce) u = either (nonceFits (u .nonces) nonce) untimed untimed
 own-untimed (write w) u = concluded-untimed (spent u) (judged u (w .bytes))
 own-untimed button u = pressed-untimed (u .sound) u
 own-untimed (pairing on) u = untimed

@@ -20,7 +20,7 @@ use Rattle.unit.specs.declared.Accounts.{Accounts}
 use Rattle.unit.specs.declared.Owner.{Owner}
 use Rattle.unit.specs.WellFormed.{heldKeys, ownerKey}
 use Rattle.unit.specs.Standing.{shownIdentifier}
-use Rattle.unit.specs.Change.{fresh, withClock, withNonce, withAccounts, withOwner, withWaiting, identityKey, withBattery, withPairing, keyed, keyInForce}
+use Rattle.unit.specs.Change.{fresh, withClock, withNonces, withAccounts, withOwner, withWaiting, identityKey, withBattery, withPairing, keyed, keyInForce}
 use Rattle.authentication.specs.Judgement.{Judgement, accepts, notAuthenticated, noConsent, unless, under, lastNonce, tagged, proves, answered, usedKey, signedByOwner}
 
 -- "power as one signed byte, two's complement" (negsuc n is -(n + 1))
@@ -88,7 +88,7 @@ setKey u q =
 -- 0x03: "The unit becomes fresh, keeping settings, clock, last nonce (spent), battery and pairing (house)"; so "0x03 drops both" keys
 unfoldable pub cleared : TagUnit → TagUnit
 cleared u =
-    withClock (u .clock) (withNonce (u .nonce) (withBattery (u .battery) (withPairing (u .pairing) (fresh (u .settings)))))
+    withClock (u .clock) (withNonces (u .nonces) (withBattery (u .battery) (withPairing (u .pairing) (fresh (u .settings)))))
 
 -- "owner key and key proof"
 unfoldable pub clearKey : TagUnit → Request → Judgement

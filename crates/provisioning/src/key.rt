@@ -69,16 +69,16 @@ pub fn set_key(u: TagUnit, h: Head, additional: &[u8]) -> Verdict
     answering::granted(after, account::signing_key(key), b"")
 }
 
-// The unit cleared: fresh, but for settings, clock, last nonce, battery and pairing.
+// The unit cleared: fresh, but for settings, clock, issued nonces, battery and pairing.
 fn cleared(u: TagUnit) -> TagUnit
     ensures { λ r. ⌜ r ≡ clearedUnit u ⌝ }
 {
     let settings = u.settings;
     let clock = u.clock;
-    let nonce = u.nonce;
+    let nonces = u.nonces;
     let mut after = change::fresh(settings);
     after.clock = clock;
-    after.nonce = nonce;
+    after.nonces = nonces;
     after.battery = u.battery;
     after.pairing = u.pairing;
     after
@@ -122,8 +122,8 @@ pub fn recover_key(u: TagUnit, h: Head, additional: &[u8]) -> Verdict
         return answering::denied(u, Refusal::NotAuthenticated);
     };
     let recovery = identity::derived_key(u, signing::RECOVERY);
-    let n = u.nonce;
-    let nonce = n.bytes;
+    let n = u.nonces;
+    let nonce = n.newest;
     let right = identity::tagged(recovery, nonce, h, additional);
     let agreed = consents(u.consent, u.pairing);
     if !right {

@@ -2,9 +2,10 @@
 ghost use mathlib.Core.Path.{_≡_};
 ghost use Prim.Native.Nat.{_+_, _≤_};
 ghost use lib.ListN.{length};
-ghost use Rattle.sizes.specs.Sizes.{nonceSize, keysRoom, identityKeySize, identifierSize};
+ghost use Rattle.sizes.specs.Sizes.{nonceSize, earlierRoom, keysRoom, identityKeySize, identifierSize};
 ghost use Rattle.octets.specs.Put.{Puts};
 ghost use Rattle.record_fields.specs.Kinds.{plain};
+use sizes::EARLIER_ROOM;
 use sizes::IDENTIFIER_SIZE;
 use sizes::IDENTITY_KEY_SIZE;
 use sizes::KEYS_ROOM;
@@ -23,6 +24,22 @@ pub fn nonce(from: &[u8], at: usize) -> [u8; NONCE_SIZE]
 {
     let mut bytes = [0u8; NONCE_SIZE];
     octets::put(&mut bytes, 0, &from[at..at + NONCE_SIZE]);
+    bytes
+}
+
+pub fn put_earlier_nonces(to: &mut [u8], at: usize, bytes: [u8; EARLIER_ROOM])
+    requires { ⌜ at + earlierRoom ≤ length (now to) ⌝ }
+    ensures { λ _. ⌜ Puts at earlierRoom (plain earlierRoom .bytes bytes) (now (to .entry)) (now (to .exit)) ⌝ }
+{
+    octets::put(to, at, &bytes);
+}
+
+pub fn earlier_nonces(from: &[u8], at: usize) -> [u8; EARLIER_ROOM]
+    requires { ⌜ at + earlierRoom ≤ length (now from) ⌝ }
+    ensures { λ r. ⌜ r ≡ plain earlierRoom .value (now (from .entry)) at ⌝ }
+{
+    let mut bytes = [0u8; EARLIER_ROOM];
+    octets::put(&mut bytes, 0, &from[at..at + EARLIER_ROOM]);
     bytes
 }
 

@@ -1,12 +1,12 @@
 -- Each group is a lawful part: every field is, and a value made of its own fields is itself.
 use mathlib.Core.Path.{_≡_, refl}
 use mathlib.Core.Bool.{true, false}
-use Rattle.sizes.specs.Sizes.{nonceSize, keysRoom, identityKeySize, identifierSize}
+use Rattle.sizes.specs.Sizes.{nonceSize, earlierRoom, keysRoom, identityKeySize, identifierSize}
 use Rattle.unit.specs.declared.Owner.{Owner}
 use Rattle.unit.specs.declared.Sound.{Sound}
 use Rattle.unit.specs.declared.Protection.{Protection}
 use Rattle.record_fields.specs.Part.{again, whole, Lawful}
-use Rattle.record_parts.specs.Groups.{settingsFields, clockFields, nonceFields, ownerFields, accountsFields, identityFields, soundFields, protectionFields, identifierFields}
+use Rattle.record_parts.specs.Groups.{settingsFields, clockFields, noncesFields, ownerFields, accountsFields, identityFields, soundFields, protectionFields, identifierFields}
 use Rattle.record_fields.specs.Kinds.{tenthsSize, secondsSize, countSize}
 use Rattle.record_fields.proofs.Joining.{whole-lawful}
 use Rattle.record_fields.proofs.KindsKept.{byte-lawful, plain-lawful, number-lawful, flag-lawful, power-lawful}
@@ -19,9 +19,10 @@ pub clock-lawful : Lawful (whole clockFields)
 unfolding clockFields again
 clock-lawful = whole-lawful clockFields ((tt, number-lawful secondsSize), byte-lawful) (λ c. refl)
 
-pub nonce-lawful : Lawful (whole nonceFields)
-unfolding nonceFields again
-nonce-lawful = whole-lawful nonceFields (((tt, flag-lawful), flag-lawful), plain-lawful nonceSize) (λ n. refl)
+pub nonces-lawful : Lawful (whole noncesFields)
+unfolding noncesFields again
+nonces-lawful =
+    whole-lawful noncesFields ((((tt, byte-lawful), flag-lawful), plain-lawful nonceSize), plain-lawful earlierRoom) (λ n. refl)
 
 owner-again : (o : Owner) → again ownerFields o ≡ o
 unfolding ownerFields again

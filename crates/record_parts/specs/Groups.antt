@@ -5,10 +5,10 @@ use mathlib.Core.Bool.{Bool, cond}
 use mathlib.Core.List.{List}
 use lib.Dec.{eqb}
 use lib.IntN.{ℤ}
-use Rattle.sizes.specs.Sizes.{nonceSize, keysRoom, identityKeySize, identifierSize}
+use Rattle.sizes.specs.Sizes.{nonceSize, earlierRoom, keysRoom, identityKeySize, identifierSize}
 use Rattle.unit.specs.declared.Settings.{Settings}
 use Rattle.unit.specs.declared.Clock.{Clock}
-use Rattle.unit.specs.declared.Nonce.{Nonce}
+use Rattle.nonces.specs.declared.Nonces.{Nonces}
 use Rattle.unit.specs.declared.Accounts.{Accounts}
 use Rattle.unit.specs.declared.Owner.{Owner}
 use Rattle.unit.specs.declared.Identity.{Identity}
@@ -43,18 +43,19 @@ clockFields =
     then numberOf secondsSize of (λ c. c .seconds)
     then byte of (λ c. c .tenth)
 
-abbrev pub noncePartSize : ℕ
-noncePartSize = byteSize + byteSize + nonceSize
+abbrev pub noncesSize : ℕ
+noncesSize = byteSize + byteSize + nonceSize + earlierRoom
 
-abbrev pub nonceOf : Bool → Bool → List ℕ → Nonce
-nonceOf h l b = record { held = h; live = l; bytes = b }
+abbrev pub noncesOf : ℕ → Bool → List ℕ → List ℕ → Nonces
+noncesOf c l n e = record { count = c; live = l; newest = n; earlier = e }
 
-unfoldable pub nonceFields : Fields Nonce noncePartSize Nonce
-nonceFields =
-    making nonceOf
-    then flag of (λ n. n .held)
+unfoldable pub noncesFields : Fields Nonces noncesSize Nonces
+noncesFields =
+    making noncesOf
+    then byte of (λ n. n .count)
     then flag of (λ n. n .live)
-    then plain nonceSize of (λ n. n .bytes)
+    then plain nonceSize of (λ n. n .newest)
+    then plain earlierRoom of (λ n. n .earlier)
 
 -- the owner: 0, or 1 and the place
 abbrev pub ownerSize : ℕ

@@ -4,7 +4,7 @@ pub mod accounts;
 pub mod clock;
 pub mod identifier;
 pub mod identity;
-pub mod nonce;
+pub mod issued_nonces;
 pub mod owner;
 pub mod protection;
 pub mod settings;

@@ -41,11 +41,11 @@ module _ (u : TagUnit) (w : List ℕ) where
   judged-shapeless unmet = rw unmet
 
   module _ (shaped : shapeLegal w ≡ true) where
-    pub judged-dead : u .nonce .live ≡ false → judged u w ≡ notAuthenticated
+    pub judged-dead : u .nonces .live ≡ false → judged u w ≡ notAuthenticated
     unfolding judged
     judged-dead unmet = rw (shaped, unmet)
 
-    module _ (live : u .nonce .live ≡ true) where
+    module _ (live : u .nonces .live ≡ true) where
       pub judged-keyless : keyThere u (parsed w) ≡ false → judged u w ≡ notAuthenticated
       unfolding judged
       judged-keyless unmet = rw (shaped, live, unmet)

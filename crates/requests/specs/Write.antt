@@ -37,7 +37,7 @@ keyThere u q = ltb (q .id) needsKey || keyed u
 unfoldable pub judged : TagUnit → List ℕ → Judgement
 judged u w =
     unless (shapeLegal w) invalidValue
-    (unless (u .nonce .live) notAuthenticated
+    (unless (u .nonces .live) notAuthenticated
     (unless (keyThere u (parsed w)) notAuthenticated (byId (spent u) (parsed w))))
 
 -- "Every write that passes 6 and 2 spends the live nonce, whatever follows"

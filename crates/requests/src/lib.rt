@@ -93,7 +93,7 @@ pub fn write(u: TagUnit, w: &[u8], answer: &mut [u8]) -> Step
     if !shape_legal(w) {
         return end::refuse(after, Refusal::InvalidValue);
     }
-    if !u.nonce.live {
+    if !u.nonces.live {
         return end::refuse(after, Refusal::NotAuthenticated);
     }
     let h = head_of(w);

@@ -29,8 +29,8 @@ pub fn protect(u: TagUnit, h: Head, additional: &[u8]) -> Verdict
     ensures { λ r. ⌜ Judges u (h .id) (protectBy u (request h (now (additional .entry)))) r ⌝ }
 {
     let key = identity::derived_key(u, signing::PROTECTION);
-    let n = u.nonce;
-    let nonce = n.bytes;
+    let n = u.nonces;
+    let nonce = n.newest;
     if !identity::tagged(key, nonce, h, additional) {
         return answering::denied(u, Refusal::NotAuthenticated);
     }
@@ -48,8 +48,8 @@ pub fn unprotect(u: TagUnit, h: Head, additional: &[u8]) -> Verdict
     ensures { λ r. ⌜ Judges u (h .id) (unprotectBy u (request h (now (additional .entry)))) r ⌝ }
 {
     let key = identity::derived_key(u, signing::PROTECTION);
-    let n = u.nonce;
-    let nonce = n.bytes;
+    let n = u.nonces;
+    let nonce = n.newest;
     if !identity::tagged(key, nonce, h, additional) {
         return answering::denied(u, Refusal::NotAuthenticated);
     }

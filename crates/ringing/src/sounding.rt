@@ -116,8 +116,8 @@ fn rung(u: TagUnit, key: SigningKey, ring: u8, volume: u8, left: u16) -> Verdict
         let stopped = answer::notice_data(answer::BY_REQUEST, 0, 0);
         return answering::granted(change::silenced(u), key, &stopped);
     }
-    let n = u.nonce;
-    let nonce = n.bytes;
+    let n = u.nonces;
+    let nonce = n.newest;
     let sound = Sound::Ringing {
         mask: ring,
         volume,
@@ -136,8 +136,8 @@ fn let_through(u: TagUnit, key: SigningKey, h: Head, additional: &[u8]) -> bool
     if skips(protection) {
         return true;
     }
-    let n = u.nonce;
-    let nonce = n.bytes;
+    let n = u.nonces;
+    let nonce = n.newest;
     identity::tagged(key, nonce, h, additional)
 }
 
@@ -183,8 +183,8 @@ pub fn read_sound(u: TagUnit, h: Head, additional: &[u8]) -> Verdict
     ensures { λ r. ⌜ Judges u (h .id) (readSound u (request h (now (additional .entry)))) r ⌝ }
 {
     let key = identity::derived_key(u, signing::RING);
-    let n = u.nonce;
-    let nonce = n.bytes;
+    let n = u.nonces;
+    let nonce = n.newest;
     if !identity::tagged(key, nonce, h, additional) {
         return answering::denied(u, Refusal::NotAuthenticated);
     }

@@ -1,8 +1,19 @@
 -- The sizes and limits of the paper, once each, with the sentences that they come from.
-use Prim.Native.Nat.{ℕ, _+_, _*_, _/_, _^_}
+use Prim.Native.Nat.{ℕ, _+_, _*_, _-_, _/_, _^_}
 
 abbrev pub nonceSize : ℕ
 nonceSize = 8
+
+-- "any of the last 16 issued"; "A well-formed record holds up to 16"
+abbrev pub mostNonces : ℕ
+mostNonces = 16
+
+-- room for all of them, and for those before the newest
+abbrev pub noncesRoom : ℕ
+noncesRoom = mostNonces * nonceSize
+
+abbrev pub earlierRoom : ℕ
+earlierRoom = noncesRoom - nonceSize
 
 -- "ID, length, 8 tag bytes"; keys made from the identity key and key proofs have as many: "the first 8 bytes of SHA256(..)"
 abbrev pub tagSize : ℕ

@@ -15,6 +15,13 @@ pub const IDENTITY_KEY_SIZE: usize = 32;
 
 pub const IDENTIFIER_SIZE: usize = 20;
 
+// The nonces that a unit has room for, those issued last: the newest, and the earlier ones.
+pub const MOST_NONCES: u8 = 16;
+
+pub const NONCES_ROOM: usize = MOST_NONCES as usize * NONCE_SIZE;
+
+pub const EARLIER_ROOM: usize = NONCES_ROOM - NONCE_SIZE;
+
 // The account keys that a unit has room for.
 pub const MOST_KEYS: usize = 5;
 

@@ -12,13 +12,13 @@ use lib.ListN.{length, getD, take, drop}
 use borrow.Author.Tests.{ltb-true, ltb-false}
 use Rattle.laws.specs.Bytes.{number, numberAfter}
 use Rattle.octets.proofs.Numbers.{number-grows}
-use Rattle.sizes.specs.Sizes.{nonceSize, keysRoom, identityKeySize, identifierSize}
+use Rattle.sizes.specs.Sizes.{nonceSize, earlierRoom, keysRoom, identityKeySize, identifierSize}
 use Rattle.unit.specs.declared.Owner.{Owner}
 use Rattle.unit.specs.declared.Sound.{Sound}
 use Rattle.unit.specs.declared.Protection.{Protection}
 use Rattle.record_fields.specs.Part.{Octets, Part, Fields, making, _then_of_, run, whole, valueOf, Fitting}
 use Rattle.record_fields.specs.Kinds.{byteSize, byte, plain, numberOf, flag, powerSize, power, wordPower, secondsSize, countSize, tenthsSize}
-use Rattle.record_parts.specs.Groups.{settingsFields, clockFields, nonceFields, ownerFields, accountsFields, identityFields, soundFields, protectionByte, protectionFields, identifierFields}
+use Rattle.record_parts.specs.Groups.{settingsFields, clockFields, noncesFields, ownerFields, accountsFields, identityFields, soundFields, protectionByte, protectionFields, identifierFields}
 use Rattle.record_fields.proofs.Placing.{length-run}
 use Rattle.stored.specs.Record.{unitFields, unitSize, recordSize}
 
@@ -101,9 +101,10 @@ clock-filled : Filled (whole clockFields)
 unfolding Fitting valueOf clockFields
 clock-filled = record { filled = all-fit clockFields ((tt, number-filled secondsSize), byte-filled) }
 
-nonce-filled : Filled (whole nonceFields)
-unfolding Fitting valueOf nonceFields
-nonce-filled = record { filled = all-fit nonceFields (((tt, flag-filled), flag-filled), plain-filled nonceSize) }
+nonces-filled : Filled (whole noncesFields)
+unfolding Fitting valueOf noncesFields
+nonces-filled =
+    record { filled = all-fit noncesFields ((((tt, byte-filled), flag-filled), plain-filled nonceSize), plain-filled earlierRoom) }
 
 owner-fits : (place : ℕ) → place < 256 ^ countSize → (t : Bool) → Fitting ownerFields (cond t (Owner.Place place) Owner.Nobody)
 unfolding Fitting ownerFields
@@ -169,7 +170,7 @@ unfolding Fitting valueOf unitFields
 unit-filled b s h =
     let room : byteSize + unitSize ≤ length b = omega arith in
     all-fit unitFields
-    (((((((((((((tt, settings-filled), clock-filled), nonce-filled), accounts-filled), identity-filled), identity-filled), sound-filled), plain-filled nonceSize), protection-filled), number-filled tenthsSize), flag-filled), byte-filled), identifier-filled)
+    (((((((((((((tt, settings-filled), clock-filled), nonces-filled), accounts-filled), identity-filled), identity-filled), sound-filled), plain-filled nonceSize), protection-filled), number-filled tenthsSize), flag-filled), byte-filled), identifier-filled)
     b
     s
     byteSize

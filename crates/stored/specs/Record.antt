@@ -10,15 +10,15 @@ use Rattle.unit.specs.Change.{noUnit, unitOf}
 use Rattle.unit.specs.declared.TagUnit.{TagUnit}
 use Rattle.record_fields.specs.Part.{Fields, making, _then_of_, whole, bytesOf, valueOf}
 use Rattle.record_fields.specs.Kinds.{byteSize, byte, plain, numberOf, flag, tenthsSize}
-use Rattle.record_parts.specs.Groups.{settingsSize, clockSize, noncePartSize, accountsSize, identitySize, soundSize, identifierPartSize, settingsFields, clockFields, nonceFields, accountsFields, identityFields, soundFields, protectionFields, identifierFields}
+use Rattle.record_parts.specs.Groups.{settingsSize, clockSize, noncesSize, accountsSize, identitySize, soundSize, identifierPartSize, settingsFields, clockFields, noncesFields, accountsFields, identityFields, soundFields, protectionFields, identifierFields}
 
 -- raised by every change of the layout; never 0x00 or 0xFF, so that zeroed and erased memory are no record
 abbrev pub version : ℕ
-version = 0x02
+version = 0x03
 
 abbrev pub unitSize : ℕ
 unitSize =
-    settingsSize + clockSize + noncePartSize + accountsSize + identitySize + identitySize + soundSize + nonceSize + byteSize + tenthsSize + byteSize + byteSize
+    settingsSize + clockSize + noncesSize + accountsSize + identitySize + identitySize + soundSize + nonceSize + byteSize + tenthsSize + byteSize + byteSize
     + identifierPartSize
 
 -- the unit's parts, in order
@@ -27,7 +27,7 @@ unitFields =
     making unitOf
     then whole settingsFields of (λ u. u .settings)
     then whole clockFields of (λ u. u .clock)
-    then whole nonceFields of (λ u. u .nonce)
+    then whole noncesFields of (λ u. u .nonces)
     then whole accountsFields of (λ u. u .accounts)
     then whole identityFields of (λ u. u .identity)
     then whole identityFields of (λ u. u .waiting)

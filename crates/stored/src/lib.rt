@@ -14,7 +14,7 @@ use record_parts::accounts;
 use record_parts::clock;
 use record_parts::identifier;
 use record_parts::identity;
-use record_parts::nonce;
+use record_parts::issued_nonces;
 use record_parts::protection;
 use record_parts::settings;
 use record_parts::sound;
@@ -23,7 +23,7 @@ use unit::TagUnit;
 use unit::change;
 
 // Raised by every change of the layout; never 0x00 or 0xFF, so that zeroed and erased memory are no record.
-pub const VERSION: u8 = 0x02;
+pub const VERSION: u8 = 0x03;
 
 const VERSION_AT: usize = 0;
 
@@ -31,9 +31,9 @@ const SETTINGS_AT: usize = VERSION_AT + BYTE_SIZE;
 
 const CLOCK_AT: usize = SETTINGS_AT + settings::SIZE;
 
-const NONCE_AT: usize = CLOCK_AT + clock::SIZE;
+const NONCES_AT: usize = CLOCK_AT + clock::SIZE;
 
-const ACCOUNTS_AT: usize = NONCE_AT + nonce::SIZE;
+const ACCOUNTS_AT: usize = NONCES_AT + issued_nonces::SIZE;
 
 const IDENTITY_AT: usize = ACCOUNTS_AT + accounts::SIZE;
 
@@ -63,7 +63,7 @@ pub fn encode(bytes: &mut [u8], u: TagUnit)
 {
     let settings = u.settings;
     let clock = u.clock;
-    let nonce = u.nonce;
+    let nonces = u.nonces;
     let accounts = u.accounts;
     let identity = u.identity;
     let waiting = u.waiting;
@@ -74,7 +74,7 @@ pub fn encode(bytes: &mut [u8], u: TagUnit)
     kinds::put_byte(bytes, VERSION_AT, VERSION);
     settings::put(bytes, SETTINGS_AT, settings);
     clock::put(bytes, CLOCK_AT, clock);
-    nonce::put(bytes, NONCE_AT, nonce);
+    issued_nonces::put(bytes, NONCES_AT, nonces);
     accounts::put(bytes, ACCOUNTS_AT, accounts);
     identity::put(bytes, IDENTITY_AT, identity);
     identity::put(bytes, WAITING_AT, waiting);
@@ -94,7 +94,7 @@ fn fields(bytes: &[u8]) -> TagUnit
 {
     let settings = settings::read(bytes, SETTINGS_AT);
     let clock = clock::read(bytes, CLOCK_AT);
-    let nonce = nonce::read(bytes, NONCE_AT);
+    let nonces = issued_nonces::read(bytes, NONCES_AT);
     let accounts = accounts::read(bytes, ACCOUNTS_AT);
     let identity = identity::read(bytes, IDENTITY_AT);
     let waiting = identity::read(bytes, WAITING_AT);
@@ -108,7 +108,7 @@ fn fields(bytes: &[u8]) -> TagUnit
     TagUnit {
         settings,
         clock,
-        nonce,
+        nonces,
         accounts,
         identity,
         waiting,

@@ -1,6 +1,6 @@
 -- Laws of tables: what stands at a place, how the loops decide their tests place by place, what one more row at the end does, and that in a
 -- table without equal rows bytes and places say the same.
-use Prim.Native.Nat.{ℕ, zero, suc, _+_, _*_, _≤_, _<_}
+use Prim.Native.Nat.{ℕ, zero, suc, _+_, _*_, _-_, _≤_, _<_}
 use mathlib.Core.Path.{_≡_, refl, sym, ap, _∙_}
 use mathlib.Core.Bool.{Bool, true, false, not, cond, false≢true}
 use mathlib.Core.List.{List, [], _∷_, _++_}
@@ -100,12 +100,45 @@ module _ (p : List ℕ → Bool) (l : List (List ℕ)) (i : ℕ) where
   unfolding firstThat
   first-end h = rw (drop-of-length-le l h)
 
--- A row put right behind those that are there
-drop-take : (n m : ℕ) (l : List ℕ) → drop n (take (n + m) l) ≡ take m (drop n l)
+-- Fewer rows, of a table or of its front
+pub drop-take : (n m : ℕ) (l : List ℕ) → drop n (take (n + m) l) ≡ take m (drop n l)
 drop-take zero m l = rw (zero-add m)
 drop-take (suc n) m [] = rw (take-nil (suc n + m), drop-nil (suc n), take-nil m)
 drop-take (suc n) m (x ∷ xs) = rw (suc-add n m) (drop-take n m xs)
 
+pub rows-take : (width count size : ℕ) (table : List ℕ) → count * width ≤ size → rows width count (take size table) ≡ rows width count table
+unfolding rows
+rows-take width zero size table h = refl
+rows-take width (suc count) size table h =
+    let next : suc count * width ≡ width + count * width = omega (arith, suc-mul count width) in
+    let rest : size ≡ width + (size - width) = omega arith in
+    let here = take-take width size table (omega arith) in
+    let behind : drop width (take size table) ≡ take (size - width) (drop width table)
+    = ap (λ (n : ℕ). drop width (take n table)) rest ∙ drop-take width (size - width) table in
+    rw (here, behind) (ap (λ (r : List (List ℕ)). take width table ∷ r) (rows-take width count (size - width) (drop width table) (omega arith)))
+
+pub rows-fewer : (width fewer count : ℕ) (table : List ℕ) → fewer ≤ count → rows width fewer table ≡ take fewer (rows width count table)
+unfolding rows
+rows-fewer width zero count table h = refl
+rows-fewer width (suc fewer) zero table h = absurd (omega arith)
+rows-fewer width (suc fewer) (suc count) table h =
+    ap (λ (r : List (List ℕ)). take width table ∷ r) (rows-fewer width fewer count (drop width table) (omega arith))
+
+pub among-take : (k : List ℕ) (n : ℕ) (l : List (List ℕ)) → among k l ≡ false → among k (take n l) ≡ false
+unfolding among
+among-take k zero l h = refl
+among-take k (suc n) [] h = refl
+among-take k (suc n) (x ∷ xs) h = rw (or-fails-left (sameBytes k x) (among k xs) h) (among-take k n xs (or-fails-right (sameBytes k x) (among k xs) h))
+
+pub distinct-take : (n : ℕ) (l : List (List ℕ)) → distinct l ≡ true → distinct (take n l) ≡ true
+unfolding distinct
+distinct-take zero l d = refl
+distinct-take (suc n) [] d = refl
+distinct-take (suc n) (k ∷ ks) d =
+    let other : among k ks ≡ false = fails (among k ks) (λ e. clash (and-left _ _ d) (ap not e)) in
+    both (ap not (among-take k n ks other)) (distinct-take n ks (and-right (not (among k ks)) _ d))
+
+-- A row put right behind those that are there
 pasted-later : (width at : ℕ) (table bytes : List ℕ) → width + at ≤ length table
     → drop width (pasted table (width + at) bytes) ≡ pasted (drop width table) at bytes
 pasted-later width at table bytes h =

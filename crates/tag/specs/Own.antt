@@ -4,28 +4,24 @@ use mathlib.Core.Bool.{Bool, true, false, cond, not, _&&_}
 use mathlib.Core.List.{List, [], _∷_}
 use lib.Dec.{eqb, leb, ltb}
 use lib.ListN.{length}
-use Rattle.laws.specs.Bytes.{sameBytes}
-use Rattle.sizes.specs.Sizes.{nonceSize, accountKeySize, identifierSize, mostKeys, highestBattery, fullConsent, window}
+use Rattle.sizes.specs.Sizes.{accountKeySize, identifierSize, mostKeys, highestBattery, fullConsent, window}
 use Rattle.tables.specs.Rows.{among}
+use Rattle.nonces.specs.Nonces.{nonceFits, withIssued}
 use Rattle.unit.specs.declared.TagUnit.{TagUnit}
 use Rattle.unit.specs.declared.Sound.{Sound}
 use Rattle.unit.specs.declared.Protection.{Protection}
 use Rattle.unit.specs.WellFormed.{heldKeys}
-use Rattle.unit.specs.Change.{silenced, withNonce, withAccounts, withNewKey, withConsent, withPairing, withBattery, withIdentity, withWaiting, withIdentifier, noIdentity, noIdentifier, keyed, keyInForce}
+use Rattle.unit.specs.Change.{silenced, withNonces, withAccounts, withNewKey, withConsent, withPairing, withBattery, withIdentity, withWaiting, withIdentifier, noIdentity, noIdentifier, keyed, keyInForce}
 use Rattle.unit.specs.Standing.{stands}
 use Rattle.unit.specs.Outcome.{Outcome, giving, refusing}
 use Rattle.wire.specs.Signing.{version, stopNotice, byButton}
 use Rattle.frame.specs.Frame.{rendered, flagsFor}
 
--- Read: "gives 0x01 and the lent nonce (9 bytes) and makes that nonce live, replacing any other"; "3: lent nonce not 8 bytes, or equal
--- to the last issued"
-unfoldable pub nonceFits : TagUnit → List ℕ → Bool
-nonceFits u nonce = eqb (length nonce) nonceSize && not (u .nonce .held && sameBytes (u .nonce .bytes) nonce)
-
+-- Read: "gives 0x01 and the lent nonce (9 bytes) and makes that nonce live, replacing any other"; 3 for a nonce that doesn't fit
 unfoldable pub issuing : List ℕ → TagUnit → Outcome
 issuing nonce u =
-    cond (nonceFits u nonce)
-    (giving (version ∷ nonce) (withNonce (record { held = true; live = true; bytes = nonce }) u))
+    cond (nonceFits (u .nonces) nonce)
+    (giving (version ∷ nonce) (withNonces (withIssued nonce (u .nonces)) u))
     (refusing 3 u)
 
 -- Button: "A press while ringing stops it, status 3, and gives no consent. A press while silent sets consent to 600 (house)"; its notice

@@ -63,7 +63,8 @@ pub fn new_unit(power: i32, components: u32, selectable: u32) -> Step
     no_unit()
 }
 
-// Read: issues the lent nonce, and answers with 0x01 and the nonce. Refusals: 6, 2, 3.
+// Read: issues the lent nonce, and answers with 0x01 and the nonce. Refusals: 6, 2, and 3 for a nonce that is not of eight bytes or is one of the
+// last sixteen issued.
 pub fn read(u: TagUnit, lent: &[u8], answer: &mut [u8]) -> Step
     ensures { λ r. ⌜ Answers (call (of.read (now (lent .entry))) (length (now (answer .entry))) u) (r .unit) (r .reply) (now (answer .entry)) (now (answer .exit)) ⌝ }
 {

@@ -1,7 +1,7 @@
 // Time that passes, any number of tenths at once.
 ghost use mathlib.Core.Path.{_≡_};
 ghost use mathlib.Core.Bool.{true};
-ghost use Prim.Native.Nat.{_≤_, _<_};
+ghost use Prim.Native.Nat.{_-_, _≤_, _<_};
 ghost use lib.ListN.{length};
 ghost use Rattle.unit.specs.declared.Reply.{Reply};
 ghost use Rattle.sizes.specs.Sizes.{answerRoom};
@@ -48,6 +48,16 @@ fn clock_after(c: Clock, tenths: u32) -> Clock
     }
 }
 
+// The consent left some tenths later: none where they exceed it.
+fn consent_after(consent: u16, tenths: u32) -> u16
+    ensures { λ r. ⌜ r ≡ consent - tenths ⌝ }
+{
+    if tenths < (consent as u32) {
+        return consent - (tenths as u16);
+    }
+    0
+}
+
 // The unit some tenths later, its sound aside.
 fn later(u: TagUnit, tenths: u32) -> TagUnit
     requires { ⌜ u .clock .tenth ≤ 9 ⌝ }
@@ -55,14 +65,10 @@ fn later(u: TagUnit, tenths: u32) -> TagUnit
 {
     let c = u.clock;
     let clock = clock_after(c, tenths);
-    let consent = u.consent;
+    let consent = consent_after(u.consent, tenths);
     let mut after = u;
     after.clock = clock;
-    after.consent = if tenths < (consent as u32) {
-        consent - (tenths as u16)
-    } else {
-        0
-    };
+    after.consent = consent;
     after
 }
 

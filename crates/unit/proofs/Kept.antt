@@ -13,14 +13,17 @@ use borrow.Author.Tests.{lt-ltb, eq-eqb}
 use Rattle.laws.specs.Bytes.{allZero}
 use Rattle.laws.proofs.Flags.{and-right, both, or-left, or-right, or-rest, true-or-false}
 use Rattle.laws.proofs.Same.{replicate-zeros}
-use Rattle.unit.specs.Change.{fresh, noIdentity, identityKey, noIdentifier, withClock, withNonce, withAccounts, withOwner, withNewKey, withIdentity, withWaiting, withProtection, withConsent, withPairing, withBattery, withIdentifier, withSound, silenced, spent}
+use Rattle.unit.specs.Change.{fresh, noIdentity, identityKey, noIdentifier, withClock, withNonces, withAccounts, withOwner, withNewKey, withIdentity, withWaiting, withProtection, withConsent, withPairing, withBattery, withIdentifier, withSound, silenced, spent}
 use Rattle.sizes.specs.Sizes.{accountKeySize, identityKeySize, mostKeys, nonceSize, fullConsent, highestBattery, windowLength, window}
 use Rattle.tables.specs.Rows.{rows, among, distinct}
-use Rattle.unit.specs.WellFormed.{settingsLegal, heldKeys, ownerLegal, owned, identityLegal, nonceLegal, soundLegal, protectionLegal, identifierLegal, wellFormed}
+use Rattle.unit.specs.WellFormed.{settingsLegal, heldKeys, ownerLegal, owned, identityLegal, soundLegal, protectionLegal, identifierLegal, wellFormed}
 use Rattle.unit.specs.declared.TagUnit.{TagUnit}
 use Rattle.unit.specs.declared.Settings.{Settings}
 use Rattle.unit.specs.declared.Clock.{Clock}
-use Rattle.unit.specs.declared.Nonce.{Nonce}
+use Rattle.nonces.specs.declared.Nonces.{Nonces}
+use Rattle.nonces.specs.Nonces.{noncesLegal, nonceFits, withIssued}
+use Rattle.nonces.proofs.Lines.{none-legal, spent-legal}
+use Rattle.nonces.proofs.Issuing.{issued-legal}
 use Rattle.unit.specs.declared.Owner.{Owner}
 use Rattle.unit.specs.declared.Identity.{Identity}
 use Rattle.unit.specs.declared.Identifier.{Identifier}
@@ -30,7 +33,7 @@ use Rattle.unit.proofs.Lines.{AccountsLines, RingLines, lines, formed, 
 use Rattle.unit.proofs.Adding.{accounts-added, owner-added}
 
 pub fresh-formed : (s : Settings) → settingsLegal s ≡ true → wellFormed (fresh s) ≡ true
-unfolding heldKeys rows distinct ownerLegal identityLegal nonceLegal soundLegal identifierLegal allZero
+unfolding heldKeys rows distinct ownerLegal identityLegal soundLegal identifierLegal allZero
 fresh-formed s h =
     formed (fresh s)
     (record {
@@ -40,21 +43,13 @@ fresh-formed s h =
       owner = refl;
       identity = refl;
       waiting = refl;
-      nonce = refl;
+      nonces = none-legal;
       sound = refl;
       protection = refl;
       consent = search needs;
       battery = search needs;
       identifier = refl;
     })
-
-spent-legal : (n : Nonce) → nonceLegal n ≡ true → nonceLegal (record { held = n .held; live = false; bytes = n .bytes }) ≡ true
-unfolding nonceLegal
-spent-legal n h = go (true-or-false (n .held))
-  where
-    go : (n .held ≡ true) ⊎ (n .held ≡ false) → n .held || (true && allZero (n .bytes)) ≡ true
-    go (inl e) = or-left _ e
-    go (inr e) = or-right (n .held) (and-right (not (n .live)) _ (or-rest _ e h))
 
 -- An owner's place and an identity key: any place will do
 placed-legal : (place : ℕ) (k : Identity) (o : Owner) → identityLegal k o ≡ true → identityLegal k (Owner.Place place) ≡ true
@@ -101,15 +96,14 @@ module _ (u : TagUnit) (w : wellFormed u ≡ true) where
   pub pairing-kept : (on : Bool) → wellFormed (withPairing on u) ≡ true
   pairing-kept on = let l = lines u w in formed (withPairing on u) (search needs)
 
-  pub nonce-kept : (n : Nonce) → nonceLegal n ≡ true → wellFormed (withNonce n u) ≡ true
-  nonce-kept n h = let l = lines u w in formed (withNonce n u) (search needs)
+  pub nonces-kept : (n : Nonces) → noncesLegal n ≡ true → wellFormed (withNonces n u) ≡ true
+  nonces-kept n h = let l = lines u w in formed (withNonces n u) (search needs)
 
-  pub issued-kept : (live : Bool) (bytes : List ℕ) → wellFormed (withNonce (record { held = true; live = live; bytes = bytes }) u) ≡ true
-  unfolding nonceLegal
-  issued-kept live bytes = nonce-kept (record { held = true; live = live; bytes = bytes }) refl
+  pub issued-kept : (nonce : List ℕ) → nonceFits (u .nonces) nonce ≡ true → wellFormed (withNonces (withIssued nonce (u .nonces)) u) ≡ true
+  issued-kept nonce fits = nonces-kept (withIssued nonce (u .nonces)) (issued-legal nonce (u .nonces) (lines u w .nonces) fits)
 
   pub spent-kept : wellFormed (spent u) ≡ true
-  spent-kept = nonce-kept (spent u .nonce) (spent-legal (u .nonce) (lines u w .nonce))
+  spent-kept = nonces-kept (spent u .nonces) (spent-legal (u .nonces) (lines u w .nonces))
 
   pub accounts-kept : (key : List ℕ) → length key ≡ accountKeySize → u .accounts .count < mostKeys → among key (heldKeys (u .accounts)) ≡ false
       → wellFormed (withAccounts (withNewKey key (u .accounts)) u) ≡ true

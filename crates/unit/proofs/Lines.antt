@@ -12,8 +12,9 @@ use Rattle.laws.specs.Bytes.{allZero}
 use Rattle.laws.proofs.Flags.{true-or-false, and-left, and-right, both, or-left, or-right, or-rest, or-false}
 use Rattle.tables.specs.Rows.{distinct}
 use Rattle.tables.proofs.Rows.{length-rows, length-row}
+use Rattle.nonces.specs.Nonces.{noncesLegal}
 use Rattle.unit.specs.Ringable.{inside}
-use Rattle.unit.specs.WellFormed.{powerLegal, settingsLegal, heldKeys, accountsLegal, ownerLegal, owned, identityLegal, nonceLegal, soundLegal, protectionLegal, identifierLegal, wellFormed}
+use Rattle.unit.specs.WellFormed.{powerLegal, settingsLegal, heldKeys, accountsLegal, ownerLegal, owned, identityLegal, soundLegal, protectionLegal, identifierLegal, wellFormed}
 use Rattle.sizes.specs.Sizes.{mostComponents, accountKeySize, mostKeys, keysRoom, highestVolume, highestBattery, fullConsent, windowLength}
 use Rattle.unit.specs.declared.TagUnit.{TagUnit}
 use Rattle.unit.specs.declared.Settings.{Settings}
@@ -40,7 +41,7 @@ pub record Lines (u : TagUnit) : Type 0 where
   pub owner : ownerLegal (u .accounts) ≡ true
   pub identity : identityLegal (u .identity) (u .accounts .owner) ≡ true
   pub waiting : identityLegal (u .waiting) (u .accounts .owner) ≡ true
-  pub nonce : nonceLegal (u .nonce) ≡ true
+  pub nonces : noncesLegal (u .nonces) ≡ true
   pub sound : soundLegal (u .sound) (u .«ring_nonce») (u .settings) (u .identity .held) ≡ true
   pub protection : protectionLegal (u .protection) (u .identity .held) ≡ true
   pub consent : u .consent ≤ 600
@@ -85,8 +86,8 @@ lines u h =
     let from-owner = and-right (accountsLegal (u .accounts)) _ from-accounts in
     let from-identity = and-right (ownerLegal (u .accounts)) _ from-owner in
     let from-waiting = and-right (identityLegal (u .identity) (u .accounts .owner)) _ from-identity in
-    let from-nonce = and-right (identityLegal (u .waiting) (u .accounts .owner)) _ from-waiting in
-    let from-sound = and-right (nonceLegal (u .nonce)) _ from-nonce in
+    let from-nonces = and-right (identityLegal (u .waiting) (u .accounts .owner)) _ from-waiting in
+    let from-sound = and-right (noncesLegal (u .nonces)) _ from-nonces in
     let from-protection = and-right (soundLegal (u .sound) (u .«ring_nonce») (u .settings) (u .identity .held)) _ from-sound in
     let from-consent = and-right (protectionLegal (u .protection) (u .identity .held)) _ from-protection in
     let from-battery = and-right (leb (u .consent) fullConsent) _ from-consent in
@@ -97,7 +98,7 @@ lines u h =
       owner = and-left _ _ from-owner;
       identity = and-left _ _ from-identity;
       waiting = and-left _ _ from-waiting;
-      nonce = and-left _ _ from-nonce;
+      nonces = and-left _ _ from-nonces;
       sound = and-left _ _ from-sound;
       protection = and-left _ _ from-protection;
       consent = leb-true _ _ (and-left _ _ from-consent);
@@ -114,7 +115,7 @@ formed u l =
     (both (l .owner)
     (both (l .identity)
     (both (l .waiting)
-    (both (l .nonce)
+    (both (l .nonces)
     (both (l .sound)
     (both (l .protection)
     (both (le-leb _ _ (l .consent))

@@ -6,10 +6,11 @@ use lib.ListN.{replicate}
 use lib.IntN.{pos}
 use Rattle.sizes.specs.Sizes.{nonceSize, accountKeySize, keysRoom, identityKeySize, identifierSize}
 use Rattle.octets.specs.Put.{pasted}
+use Rattle.nonces.specs.Nonces.{noNonces, spentNonces}
 use Rattle.unit.specs.declared.TagUnit.{TagUnit}
 use Rattle.unit.specs.declared.Settings.{Settings}
 use Rattle.unit.specs.declared.Clock.{Clock}
-use Rattle.unit.specs.declared.Nonce.{Nonce}
+use Rattle.nonces.specs.declared.Nonces.{Nonces}
 use Rattle.unit.specs.declared.Accounts.{Accounts}
 use Rattle.unit.specs.declared.Owner.{Owner}
 use Rattle.unit.specs.declared.Identity.{Identity}
@@ -18,9 +19,6 @@ use Rattle.unit.specs.declared.Protection.{Protection}
 use Rattle.unit.specs.declared.Identifier.{Identifier}
 
 -- What is absent has zeros in its room
-abbrev pub noNonce : Nonce
-noNonce = record { held = false; live = false; bytes = replicate nonceSize 0 }
-
 abbrev pub noAccounts : Accounts
 noAccounts = record { count = 0; owner = Owner.Nobody; keys = replicate keysRoom 0 }
 
@@ -44,7 +42,7 @@ fresh s =
     record {
       settings = s;
       clock = record { seconds = 0; tenth = 0 };
-      nonce = noNonce;
+      nonces = noNonces;
       accounts = noAccounts;
       identity = noIdentity;
       waiting = noIdentity;
@@ -58,12 +56,12 @@ fresh s =
     }
 
 -- a unit of its parts
-abbrev pub unitOf : Settings → Clock → Nonce → Accounts → Identity → Identity → Sound → List ℕ → Protection → ℕ → Bool → ℕ → Identifier → TagUnit
+abbrev pub unitOf : Settings → Clock → Nonces → Accounts → Identity → Identity → Sound → List ℕ → Protection → ℕ → Bool → ℕ → Identifier → TagUnit
 unitOf s c n a k w v m p t g b i =
     record {
       settings = s;
       clock = c;
-      nonce = n;
+      nonces = n;
       accounts = a;
       identity = k;
       waiting = w;
@@ -79,43 +77,43 @@ unitOf s c n a k w v m p t g b i =
 -- the unit with one part changed
 abbrev pub withClock : Clock → TagUnit → TagUnit
 withClock c u =
-    unitOf (u .settings) c (u .nonce) (u .accounts) (u .identity) (u .waiting) (u .sound) (u .«ring_nonce») (u .protection) (u .consent) (u .pairing) (u .battery) (u .identifier)
+    unitOf (u .settings) c (u .nonces) (u .accounts) (u .identity) (u .waiting) (u .sound) (u .«ring_nonce») (u .protection) (u .consent) (u .pairing) (u .battery) (u .identifier)
 
-abbrev pub withNonce : Nonce → TagUnit → TagUnit
-withNonce n u =
+abbrev pub withNonces : Nonces → TagUnit → TagUnit
+withNonces n u =
     unitOf (u .settings) (u .clock) n (u .accounts) (u .identity) (u .waiting) (u .sound) (u .«ring_nonce») (u .protection) (u .consent) (u .pairing) (u .battery) (u .identifier)
 
 abbrev pub withAccounts : Accounts → TagUnit → TagUnit
 withAccounts a u =
-    unitOf (u .settings) (u .clock) (u .nonce) a (u .identity) (u .waiting) (u .sound) (u .«ring_nonce») (u .protection) (u .consent) (u .pairing) (u .battery) (u .identifier)
+    unitOf (u .settings) (u .clock) (u .nonces) a (u .identity) (u .waiting) (u .sound) (u .«ring_nonce») (u .protection) (u .consent) (u .pairing) (u .battery) (u .identifier)
 
 abbrev pub withIdentity : Identity → TagUnit → TagUnit
 withIdentity k u =
-    unitOf (u .settings) (u .clock) (u .nonce) (u .accounts) k (u .waiting) (u .sound) (u .«ring_nonce») (u .protection) (u .consent) (u .pairing) (u .battery) (u .identifier)
+    unitOf (u .settings) (u .clock) (u .nonces) (u .accounts) k (u .waiting) (u .sound) (u .«ring_nonce») (u .protection) (u .consent) (u .pairing) (u .battery) (u .identifier)
 
 abbrev pub withWaiting : Identity → TagUnit → TagUnit
 withWaiting w u =
-    unitOf (u .settings) (u .clock) (u .nonce) (u .accounts) (u .identity) w (u .sound) (u .«ring_nonce») (u .protection) (u .consent) (u .pairing) (u .battery) (u .identifier)
+    unitOf (u .settings) (u .clock) (u .nonces) (u .accounts) (u .identity) w (u .sound) (u .«ring_nonce») (u .protection) (u .consent) (u .pairing) (u .battery) (u .identifier)
 
 abbrev pub withProtection : Protection → TagUnit → TagUnit
 withProtection p u =
-    unitOf (u .settings) (u .clock) (u .nonce) (u .accounts) (u .identity) (u .waiting) (u .sound) (u .«ring_nonce») p (u .consent) (u .pairing) (u .battery) (u .identifier)
+    unitOf (u .settings) (u .clock) (u .nonces) (u .accounts) (u .identity) (u .waiting) (u .sound) (u .«ring_nonce») p (u .consent) (u .pairing) (u .battery) (u .identifier)
 
 abbrev pub withConsent : ℕ → TagUnit → TagUnit
 withConsent t u =
-    unitOf (u .settings) (u .clock) (u .nonce) (u .accounts) (u .identity) (u .waiting) (u .sound) (u .«ring_nonce») (u .protection) t (u .pairing) (u .battery) (u .identifier)
+    unitOf (u .settings) (u .clock) (u .nonces) (u .accounts) (u .identity) (u .waiting) (u .sound) (u .«ring_nonce») (u .protection) t (u .pairing) (u .battery) (u .identifier)
 
 abbrev pub withPairing : Bool → TagUnit → TagUnit
 withPairing on u =
-    unitOf (u .settings) (u .clock) (u .nonce) (u .accounts) (u .identity) (u .waiting) (u .sound) (u .«ring_nonce») (u .protection) (u .consent) on (u .battery) (u .identifier)
+    unitOf (u .settings) (u .clock) (u .nonces) (u .accounts) (u .identity) (u .waiting) (u .sound) (u .«ring_nonce») (u .protection) (u .consent) on (u .battery) (u .identifier)
 
 abbrev pub withBattery : ℕ → TagUnit → TagUnit
 withBattery level u =
-    unitOf (u .settings) (u .clock) (u .nonce) (u .accounts) (u .identity) (u .waiting) (u .sound) (u .«ring_nonce») (u .protection) (u .consent) (u .pairing) level (u .identifier)
+    unitOf (u .settings) (u .clock) (u .nonces) (u .accounts) (u .identity) (u .waiting) (u .sound) (u .«ring_nonce») (u .protection) (u .consent) (u .pairing) level (u .identifier)
 
 abbrev pub withIdentifier : Identifier → TagUnit → TagUnit
 withIdentifier i u =
-    unitOf (u .settings) (u .clock) (u .nonce) (u .accounts) (u .identity) (u .waiting) (u .sound) (u .«ring_nonce») (u .protection) (u .consent) (u .pairing) (u .battery) i
+    unitOf (u .settings) (u .clock) (u .nonces) (u .accounts) (u .identity) (u .waiting) (u .sound) (u .«ring_nonce») (u .protection) (u .consent) (u .pairing) (u .battery) i
 
 -- the accounts with another owner
 abbrev pub withOwner : Owner → Accounts → Accounts
@@ -128,7 +126,7 @@ withNewKey key a = record { count = a .count + 1; owner = a .owner; keys = paste
 -- a sound, with the nonce of the accepted ring beside it
 abbrev pub withSound : Sound → List ℕ → TagUnit → TagUnit
 withSound v m u =
-    unitOf (u .settings) (u .clock) (u .nonce) (u .accounts) (u .identity) (u .waiting) v m (u .protection) (u .consent) (u .pairing) (u .battery) (u .identifier)
+    unitOf (u .settings) (u .clock) (u .nonces) (u .accounts) (u .identity) (u .waiting) v m (u .protection) (u .consent) (u .pairing) (u .battery) (u .identifier)
 
 -- Every way to silence goes through here: no sound, and no nonce beside it
 abbrev pub silenced : TagUnit → TagUnit
@@ -142,9 +140,9 @@ keyed u = u .identity .held
 abbrev pub keyInForce : TagUnit → List ℕ
 keyInForce u = u .identity .bytes
 
--- "Spent" is the paper's word for a nonce that can authenticate no further write: its bytes stay, and it is not live
+-- "spends the nonce"
 abbrev pub spent : TagUnit → TagUnit
-spent u = withNonce (record { held = u .nonce .held; live = false; bytes = u .nonce .bytes }) u
+spent u = withNonces (spentNonces (u .nonces)) u
 
 -- The record of no unit, fixed and not well formed, by its battery: what a refused new unit gives, so that a host which ignores the refusal
 -- is answered with 2 from then on

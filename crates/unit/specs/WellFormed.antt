@@ -9,11 +9,11 @@ use lib.IntN.{ℤ, pos, negsuc}
 use Rattle.laws.specs.Bytes.{allZero}
 use Rattle.sizes.specs.Sizes.{accountKeySize, mostKeys, keysRoom, mostComponents, highestVolume, highestBattery, longestRing, fullConsent, windowLength}
 use Rattle.tables.specs.Rows.{rows, distinct}
+use Rattle.nonces.specs.Nonces.{noncesLegal}
 use Rattle.unit.specs.Ringable.{inside}
 use Rattle.unit.specs.Change.{keyed}
 use Rattle.unit.specs.declared.TagUnit.{TagUnit}
 use Rattle.unit.specs.declared.Settings.{Settings}
-use Rattle.unit.specs.declared.Nonce.{Nonce}
 use Rattle.unit.specs.declared.Accounts.{Accounts}
 use Rattle.unit.specs.declared.Owner.{Owner}
 use Rattle.unit.specs.declared.Identity.{Identity}
@@ -63,10 +63,6 @@ ownerKey a = rowOf (a .owner) (heldKeys a)
 unfoldable pub identityLegal : Identity → Owner → Bool
 identityLegal k o = (k .held && owned o) || (not (k .held) && allZero (k .bytes))
 
--- The last issued nonce, if any, and whether it is live; live without a nonce is not well formed
-unfoldable pub nonceLegal : Nonce → Bool
-nonceLegal n = n .held || (not (n .live) && allZero (n .bytes))
-
 -- Silent, or ringing with a mask, a volume, tenths left and the nonce of the accepted ring
 unfoldable pub soundLegal : Sound → List ℕ → Settings → Bool → Bool
 soundLegal Sound.Silent nonce s keyed = allZero nonce
@@ -98,7 +94,7 @@ wellFormed u =
     && (ownerLegal (u .accounts)
     && (identityLegal (u .identity) (u .accounts .owner)
     && (identityLegal (u .waiting) (u .accounts .owner)
-    && (nonceLegal (u .nonce)
+    && (noncesLegal (u .nonces)
     && (soundLegal (u .sound) (u .«ring_nonce») (u .settings) (keyed u)
     && (protectionLegal (u .protection) (keyed u)
     && (leb (u .consent) fullConsent

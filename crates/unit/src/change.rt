@@ -5,7 +5,6 @@ use crate::Accounts;
 use crate::Clock;
 use crate::Identifier;
 use crate::Identity;
-use crate::Nonce;
 use crate::Owner;
 use crate::Protection;
 use crate::Settings;
@@ -29,11 +28,7 @@ pub fn fresh(s: Settings) -> TagUnit
             seconds: 0,
             tenth: 0,
         },
-        nonce: Nonce {
-            held: false,
-            live: false,
-            bytes: [0; NONCE_SIZE],
-        },
+        nonces: nonces::none(),
         accounts: Accounts {
             count: 0,
             owner: Owner::Nobody,
@@ -110,7 +105,7 @@ fn rebuilt(
 {
     let settings = u.settings;
     let clock = u.clock;
-    let nonce = u.nonce;
+    let nonces = u.nonces;
     let accounts = u.accounts;
     let identity = u.identity;
     let waiting = u.waiting;
@@ -118,7 +113,7 @@ fn rebuilt(
     TagUnit {
         settings,
         clock,
-        nonce,
+        nonces,
         accounts,
         identity,
         waiting,
@@ -156,13 +151,12 @@ pub fn with_protection(u: TagUnit, protection: Protection) -> TagUnit
     rebuilt(u, sound, ring_nonce, protection)
 }
 
-// The unit with its nonce spent: its bytes stay, and it authenticates no further write.
+// The unit with its newest nonce spent: it stays, and authenticates no further write.
 pub fn spent(u: TagUnit) -> TagUnit
     ensures { λ r. ⌜ r ≡ spentUnit u ⌝ }
 {
-    let mut nonce = u.nonce;
-    nonce.live = false;
+    let nonces = nonces::spent(u.nonces);
     let mut after = u;
-    after.nonce = nonce;
+    after.nonces = nonces;
     after
 }

@@ -1,6 +1,7 @@
 // What a tag unit holds: the unit record of the paper's "What a unit holds", by value. Any values at all may stand in a record;
 // `well_formed` judges them.
 
+use nonces::Nonces;
 use sizes::IDENTIFIER_SIZE;
 use sizes::IDENTITY_KEY_SIZE;
 use sizes::KEYS_ROOM;
@@ -23,13 +24,6 @@ pub struct Settings {
 pub struct Clock {
     pub seconds: u32,
     pub tenth: u8,
-}
-
-// The last issued nonce, if any, and whether it is live: not yet spent by a write.
-pub struct Nonce {
-    pub held: bool,
-    pub live: bool,
-    pub bytes: [u8; NONCE_SIZE],
 }
 
 // The owner's place among the account keys.
@@ -74,7 +68,7 @@ pub struct Identifier {
 pub struct TagUnit {
     pub settings: Settings,
     pub clock: Clock,
-    pub nonce: Nonce,
+    pub nonces: Nonces,
     pub accounts: Accounts,
     // The identity key in force.
     pub identity: Identity,

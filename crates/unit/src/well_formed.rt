@@ -4,11 +4,10 @@ ghost use mathlib.Core.Bool.{not, _&&_, _||_};
 ghost use lib.Dec.{leb, eqb};
 ghost use Prim.Native.Nat.{_≤_};
 ghost use Rattle.sizes.specs.Sizes.{mostComponents, highestVolume, fullConsent, highestBattery};
-ghost use Rattle.unit.specs.WellFormed.{powerLegal, settingsLegal, accountsLegal, ownerLegal, identityLegal, nonceLegal, soundLegal, protectionLegal, identifierLegal, wellFormed};
+ghost use Rattle.unit.specs.WellFormed.{powerLegal, settingsLegal, accountsLegal, ownerLegal, identityLegal, soundLegal, protectionLegal, identifierLegal, wellFormed};
 use crate::Accounts;
 use crate::Identifier;
 use crate::Identity;
-use crate::Nonce;
 use crate::Owner;
 use crate::Protection;
 use crate::Settings;
@@ -94,19 +93,6 @@ fn identities_legal(identity: Identity, waiting: Identity, owner: Owner) -> bool
         return identity_legal(waiting, owner);
     }
     false
-}
-
-fn nonce_legal(n: Nonce) -> bool
-    ensures { λ r. ⌜ r ≡ nonceLegal n ⌝ }
-{
-    if n.held {
-        return true;
-    }
-    if n.live {
-        return false;
-    }
-    let nonce = n.bytes;
-    octets::all_zero(&nonce)
 }
 
 // A volume of at most 3, and 0 where it is not selectable.
@@ -212,8 +198,8 @@ pub fn well_formed(u: TagUnit) -> bool
     if !identities_legal(identity, waiting, owner) {
         return false;
     }
-    let nonce = u.nonce;
-    if !nonce_legal(nonce) {
+    let nonces = u.nonces;
+    if !nonces::legal(nonces) {
         return false;
     }
     let keyed = identity.held;

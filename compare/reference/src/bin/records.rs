@@ -60,14 +60,14 @@ fn first_eight(parts: &[&[u8]]) -> [u8; 8] {
 /// A write with a right tag for the unit's last nonce.
 fn signed(unit: &Unit, key: &[u8], id: u8, data: &[u8]) -> Call {
     let length = 8 + data.len() as u8;
-    let tag = request_tag(key, &unit.nonce, id, length, data);
+    let tag = request_tag(key, &unit.nonces[0], id, length, data);
     Call::Write([&[id, length][..], &tag, data].concat())
 }
 
 /// The right write of each ID for a unit that holds what it needs.
 fn right_write(unit: &Unit, id: u8) -> Call {
     let sub = |last: u8| first_eight(&[&unit.identity, &[last]]);
-    let proof = first_eight(&[&unit.identity, &unit.nonce]);
+    let proof = first_eight(&[&unit.identity, &unit.nonces[0]]);
     let owner = unit.keys[unit.owner as usize];
     match id {
         0x00 | 0x01 => signed(unit, &unit.keys[1], id, &[]),
@@ -118,7 +118,8 @@ fn sample_rows(table: &mut Table, samples: &[Sample]) {
 fn bad_calls(unit: &Unit) -> Vec<(&'static str, Call, &'static str)> {
     vec![
         ("nonce-of-7-bytes", Call::Read(vec![0x77; 7]), "03"),
-        ("nonce-issued-last", Call::Read(unit.nonce.to_vec()), "03"),
+        ("nonce-issued-last", Call::Read(unit.nonces[0].to_vec()), "03"),
+        ("nonce-issued-sixteenth-back", Call::Read(unit.nonces[15].to_vec()), "03"),
         ("empty-write", Call::Write(vec![]), "81"),
         ("tag-of-zeros", Call::Write([&[0x01, 0x08][..], &[0; 8]].concat()), "80"),
         ("level-4", Call::Battery(4), "01"),
@@ -182,9 +183,9 @@ fn write_rows(table: &mut Table) {
     other_window.window = 3_072;
     table.row("last-window", &encode(&other_window), &Call::Frame, ROOM, Some("05"));
     let mut no_nonce = unit;
-    no_nonce.has_nonce = false;
     no_nonce.live = false;
-    no_nonce.nonce = [0; 8];
+    no_nonce.nonce_count = 0;
+    no_nonce.nonces = [[0; 8]; 16];
     no_nonce.sound = Sound::Ringing { mask: 1, volume: 0, left: 1 };
     table.row("ring-without-last-nonce-ends", &encode(&no_nonce), &Call::Elapsed(1), ROOM, Some("ok"));
     table.row("no-nonce-at-all", &encode(&no_nonce), &right_write(&no_nonce, 0x06), ROOM, Some("80"));

@@ -28,7 +28,7 @@ fn power_bytes() {
 
 fn ring(unit: &mut Unit, mask: u8, timeout: u16, volume: u8) -> Result<Vec<u8>, u8> {
     let key = sub_key(&unit.identity, 2);
-    let nonce = (u64::from_be_bytes(unit.nonce) + 1).to_be_bytes();
+    let nonce = (u64::from_be_bytes(unit.nonces[0]) + 1).to_be_bytes();
     let time = timeout.to_be_bytes();
     exchange(unit, nonce, &key, 0x05, &[mask, time[0], time[1], volume])
 }

@@ -5,8 +5,9 @@ use crate::tag::{Protection, Sound};
 
 fn full() -> Unit {
     let mut unit = provisioned(2, 1);
-    unit.has_nonce = true;
-    unit.nonce = [5; 8];
+    unit.nonce_count = 2;
+    unit.nonces[0] = [5; 8];
+    unit.nonces[1] = [9; 8];
     unit.live = true;
     unit.sound = Sound::Ringing { mask: 2, volume: 3, left: 6_000 };
     unit.ring_nonce = [4; 8];
@@ -113,10 +114,13 @@ fn keys_and_owner() {
 #[test]
 fn nonces_and_sound() {
     let fresh = tag::new_unit(0, 3, 0).unwrap();
-    broken(|u| u.nonce[7] = 1, &fresh);
+    broken(|u| u.nonces[0][7] = 1, &fresh);
+    broken(|u| u.nonces[15][0] = 1, &fresh);
+    broken(|u| u.nonce_count = 17, &fresh);
+    broken(|u| u.nonce_count = 2, &fresh);
     broken(|u| u.live = true, &fresh);
-    right(|u| u.has_nonce = true, &fresh);
-    right(|u| { u.has_nonce = true; u.live = true }, &fresh);
+    right(|u| u.nonce_count = 1, &fresh);
+    right(|u| { u.nonce_count = 1; u.live = true }, &fresh);
     broken(|u| u.ring_nonce[0] = 1, &fresh);
     broken(|u| u.sound = Sound::Ringing { mask: 1, volume: 0, left: 1 }, &fresh);
     let unit = full();
@@ -134,9 +138,12 @@ fn nonces_and_sound() {
     broken(|u| u.selectable = 0, &unit);
     right(|u| { u.selectable = 0; u.sound = Sound::Ringing { mask: 3, volume: 0, left: 1 } }, &unit);
     // Not asked: a last nonce while ringing, nor any tie between the two nonces.
-    right(|u| { u.has_nonce = false; u.nonce = [0; 8]; u.live = false }, &unit);
+    right(|u| { u.nonce_count = 0; u.nonces = [[0; 8]; 16]; u.live = false }, &unit);
+    right(|u| u.nonce_count = 3, &unit);
+    broken(|u| u.nonce_count = 1, &unit);
+    broken(|u| u.nonces[1] = u.nonces[0], &unit);
     right(|u| u.ring_nonce = [0; 8], &unit);
-    right(|u| u.ring_nonce = u.nonce, &unit);
+    right(|u| u.ring_nonce = u.nonces[0], &unit);
 }
 
 #[test]
@@ -174,7 +181,7 @@ fn bytes_and_back() {
         assert_eq!(encode(&unit).len(), SIZE);
         assert_eq!(decode(&encode(&unit)), Some(unit));
     }
-    assert_eq!(place("nonce-bytes"), 14);
+    assert_eq!(place("nonces-bytes"), 14);
     assert_eq!(place("identifier-window") + 4, SIZE);
 }
 

@@ -20,7 +20,39 @@ fn nonces_lent_to_read() {
     assert_eq!(tag::read(&mut unit, &[0; 8], &mut answer), Err(3));
     assert!(!unit.live);
     assert_eq!(tag::read(&mut unit, &[1; 8], &mut answer), Ok(9));
-    assert_eq!(tag::read(&mut unit, &[0; 8], &mut answer), Ok(9));
+    assert_eq!(tag::read(&mut unit, &[0; 8], &mut answer), Err(3));
+    assert!(unit.live && unit.nonces[0] == [1; 8]);
+}
+
+#[test]
+fn sixteen_nonces() {
+    let mut unit = tag::new_unit(0, 0, 0).unwrap();
+    let mut lend = |n: u8| tag::read(&mut unit, &[n; 8], &mut [0; 42]);
+    for n in 1..=16 {
+        assert_eq!(lend(n), Ok(9));
+        for old in 1..=n {
+            assert_eq!(lend(old), Err(3));
+        }
+    }
+    // The seventeenth back is accepted, and the refused reads entered nothing.
+    assert_eq!(lend(17), Ok(9));
+    for old in 2..=17 {
+        assert_eq!(lend(old), Err(3));
+    }
+    assert_eq!(lend(1), Ok(9));
+    assert_eq!(lend(3), Err(3));
+    assert_eq!(lend(2), Ok(9));
+    assert_eq!(unit.nonce_count, 16);
+    assert_eq!(unit.nonces[..3], [[2; 8], [1; 8], [17; 8]]);
+    assert_eq!(unit.nonces[15], [4; 8]);
+    // Sources of every period: up to 16 values come once each, from 17 on always.
+    for period in 1..=20u8 {
+        let mut unit = tag::new_unit(0, 0, 0).unwrap();
+        for step in 0..100 {
+            let result = tag::read(&mut unit, &[step % period; 8], &mut [0; 42]);
+            assert_eq!(result.is_ok(), period > 16 || step < period);
+        }
+    }
 }
 
 #[test]
@@ -136,7 +168,9 @@ fn new_identity_key_and_what_stays() {
     let answer = exchange(&mut unit, [3; 8], &OWNER_KEY, 0x02, &data).unwrap();
     assert_eq!(answer, tag::make_answer(&OWNER_KEY, &[3; 8], 0x02, &[]));
     // The write only sets the waiting key.
-    expected.nonce = [3; 8];
+    expected.nonce_count = 3;
+    expected.nonces = unit.nonces;
+    assert_eq!(unit.nonces[..4], [[3; 8], [2; 8], [1; 8], [0; 8]]);
     expected.has_waiting = true;
     expected.waiting = IDENTITY;
     assert_eq!(unit, expected);
@@ -219,12 +253,16 @@ fn clearing_and_what_remains() {
     let mut expected = tag::new_unit(-20, 3, 1).unwrap();
     expected.seconds = 5_000;
     expected.tenth = 7;
-    expected.has_nonce = true;
-    expected.nonce = [5; 8];
+    expected.nonce_count = 5;
+    for n in 0..5 {
+        expected.nonces[n] = [5 - n as u8; 8];
+    }
     expected.battery = 2;
     expected.pairing = true;
     assert_eq!(unit, expected);
-    assert_eq!(tag::read(&mut unit, &[5; 8], &mut [0; 42]), Err(3));
+    for n in 1..=5 {
+        assert_eq!(tag::read(&mut unit, &[n; 8], &mut [0; 42]), Err(3));
+    }
 }
 
 #[test]

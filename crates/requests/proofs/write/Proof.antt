@@ -39,7 +39,7 @@ returns-2 c =
     write-refused (known .u) (known .w .now) (spent-at .spent .ensures) (c .refuse2 .result) Refusal.NotAuthenticated
     (known .answer .now) (c .refuse2 .ensures)
     (judged-dead (known .u) (known .w .now) (granted (shape-legal-at .shape-legal .ensures) (if1-at .if1 .left))
-    (not-true (known .u .nonce .live) (c .before .if2 .taken)))
+    (not-true (known .u .nonces .live) (c .before .if2 .taken)))
 
 head-of-requires : tie.Need-head-of-requires
 head-of-requires c κs =
@@ -66,7 +66,7 @@ returns-3 c =
     write-refused (known .u) (known .w .now) (spent-at .spent .ensures) (c .refuse3 .result) Refusal.NotAuthenticated
     (known .answer .now) (c .refuse3 .ensures)
     (judged-keyless (known .u) (known .w .now) (granted (shape-legal-at .shape-legal .ensures) (if1-at .if1 .left))
-    (not-false (known .u .nonce .live) (if2-at .if2 .left))
+    (not-false (known .u .nonces .live) (if2-at .if2 .left))
     (key-there (known .u) (known .w .now) (spent-at .spent .ensures) (head-of-at .head-of .ensures)
     (key-there-at .key-there .ensures) ∙ not-true _ (c .before .if3 .taken)))
 
@@ -121,7 +121,7 @@ returns-4 c =
     let known = spent-at .before .before .before .args in
     write-judged (known .u) (known .w .now) (spent-at .spent .ensures) (head-of-at .head-of .ensures) (conclude-at .conclude .result)
     (judged-by-id (known .u) (known .w .now) (granted (shape-legal-at .shape-legal .ensures) (if1-at .if1 .left))
-    (not-false (known .u .nonce .live) (if2-at .if2 .left))
+    (not-false (known .u .nonces .live) (if2-at .if2 .left))
     (key-there (known .u) (known .w .now) (spent-at .spent .ensures) (head-of-at .head-of .ensures)
     (key-there-at .key-there .ensures) ∙ not-false _ (if3-at .if3 .left)))
     (by-id-at .by-id .ensures) (conclude-at .conclude .ensures)

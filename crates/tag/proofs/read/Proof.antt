@@ -1,6 +1,8 @@
 -- `tag::read` meets its contract: too little room is refused, then a unit that is not well formed, and the rest is handed on.
 use Rattle.tag.specs.Calls.{guarded, call, own}
-use Rattle.tag.proofs.Guards.{answering-no-room, answering-own, answering-refuses}
+use native.Mathlib.Omega.{arith}
+use Rattle.unit.proofs.Lines.{lines}
+use Rattle.tag.proofs.Guards.{well-formed, answering-no-room, answering-own, answering-refuses}
 use Rattle.unit.proofs.Ends.{refused-answers}
 use borrow.Author.Needs.{needs}
 use Rattle.tag.proofs.read.Statement.{statement}
@@ -17,7 +19,9 @@ well-formed-requires : tie.Need-well-formed-requires
 well-formed-requires c κs = search needs
 
 issued-requires : tie.Need-issued-requires
-issued-requires c κs = search needs
+issued-requires c κs =
+    let test = c .before in
+    (lines _ (well-formed _ (test .before .well-formed .ensures) (test .if2 .taken)) .nonces, omega arith)
 
 same-length : tie.Need-same-length
 same-length c = search needs

@@ -61,7 +61,7 @@ returns-2 c =
     let start = owner-place-at .before .before .before in
     denial (start .args .u) (start .args .h .id) (c .denied2 .ensures)
     (recover-unsigned (start .args .u) (request (start .args .h) (start .args .additional .now)) (found-row (owner-place-at .owner-place .ensures) (found-at .found .given .1))
-    (ap (λ (k : List ℕ). tagged k (start .args .u .nonce .bytes) (request (start .args .h) (start .args .additional .now))) (sym (derived-key-at .derived-key .ensures .keyIs))
+    (ap (λ (k : List ℕ). tagged k (start .args .u .nonces .newest) (request (start .args .h) (start .args .additional .now))) (sym (derived-key-at .derived-key .ensures .keyIs))
     ∙ refuted (tagged-at .tagged .ensures) (if1-at .if1 .taken)))
 
 denied-requires-3 : tie.Need-denied-requires-3
@@ -79,7 +79,7 @@ returns-3 c =
     let start = owner-place-at .before .before .before in
     denial (start .args .u) (start .args .h .id) (c .denied3 .ensures)
     (recover-unasked (start .args .u) (request (start .args .h) (start .args .additional .now)) (found-row (owner-place-at .owner-place .ensures) (found-at .found .given .1))
-    (ap (λ (k : List ℕ). tagged k (start .args .u .nonce .bytes) (request (start .args .h) (start .args .additional .now))) (sym (derived-key-at .derived-key .ensures .keyIs))
+    (ap (λ (k : List ℕ). tagged k (start .args .u .nonces .newest) (request (start .args .h) (start .args .additional .now))) (sym (derived-key-at .derived-key .ensures .keyIs))
     ∙ granted (tagged-at .tagged .ensures) (if1-at .if1 .left))
     (refuted (consents-at .consents .ensures) (if2-at .if2 .taken)))
 
@@ -113,7 +113,7 @@ returns-4 c =
     let start = owner-place-at .before .before .before in
     grant (start .args .u) (start .args .h .id) (derived-key-at .derived-key .ensures) (c .granted .ensures)
     (key-recovered (start .args .u) (request (start .args .h) (start .args .additional .now)) (found-row (owner-place-at .owner-place .ensures) (found-at .found .given .1))
-    (ap (λ (k : List ℕ). tagged k (start .args .u .nonce .bytes) (request (start .args .h) (start .args .additional .now))) (sym (derived-key-at .derived-key .ensures .keyIs))
+    (ap (λ (k : List ℕ). tagged k (start .args .u .nonces .newest) (request (start .args .h) (start .args .additional .now))) (sym (derived-key-at .derived-key .ensures .keyIs))
     ∙ granted (tagged-at .tagged .ensures) (if1-at .if1 .left))
     (granted (consents-at .consents .ensures) (if2-at .if2 .left)) (key-at-at .key-at .ensures) (encrypted-key-at .encrypted-key .ensures))
 

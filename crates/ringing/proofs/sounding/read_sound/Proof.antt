@@ -32,7 +32,7 @@ returns c =
     let derived-key-at = tagged-at .before .before .before in
     let start = derived-key-at .before .before in
     denial (start .args .u) (start .args .h .id) (c .denied .ensures)
-    (sound-untagged (start .args .u) (request (start .args .h) (start .args .additional .now)) (ap (λ (k : List ℕ). tagged k (start .args .u .nonce .bytes) (request (start .args .h) (start .args .additional .now))) (sym (derived-key-at .derived-key .ensures .keyIs)) ∙ refuted (tagged-at .tagged .ensures) (if1-at .if1 .taken)))
+    (sound-untagged (start .args .u) (request (start .args .h) (start .args .additional .now)) (ap (λ (k : List ℕ). tagged k (start .args .u .nonces .newest) (request (start .args .h) (start .args .additional .now))) (sym (derived-key-at .derived-key .ensures .keyIs)) ∙ refuted (tagged-at .tagged .ensures) (if1-at .if1 .taken)))
 
 sound-state-requires : tie.Need-sound-state-requires
 sound-state-requires c κs = search needs
@@ -51,7 +51,7 @@ returns-2 c =
     let derived-key-at = tagged-at .before .before .before in
     let start = derived-key-at .before .before in
     grant (start .args .u) (start .args .h .id) (derived-key-at .derived-key .ensures) (c .granted .ensures)
-    (sound-read (start .args .u) (request (start .args .h) (start .args .additional .now)) (ap (λ (k : List ℕ). tagged k (start .args .u .nonce .bytes) (request (start .args .h) (start .args .additional .now))) (sym (derived-key-at .derived-key .ensures .keyIs)) ∙ granted (tagged-at .tagged .ensures) (if1-at .if1 .left)) (sound-state-at .sound-state .ensures))
+    (sound-read (start .args .u) (request (start .args .h) (start .args .additional .now)) (ap (λ (k : List ℕ). tagged k (start .args .u .nonces .newest) (request (start .args .h) (start .args .additional .now))) (sym (derived-key-at .derived-key .ensures .keyIs)) ∙ granted (tagged-at .tagged .ensures) (if1-at .if1 .left)) (sound-state-at .sound-state .ensures))
 
 pub read-sound-spec : {M : Type 1} → statement M
 read-sound-spec =

@@ -3,6 +3,9 @@ use borrow.Author.Needs.{needs}
 use Rattle.unit.proofs.change.fresh.Statement.{statement}
 use Rattle.unit.proofs.change.fresh.Tie as tie
 
+none-requires : tie.Need-none-requires
+none-requires c κs = search needs
+
 no-identity-requires : tie.Need-no-identity-requires
 no-identity-requires c κs = search needs
 
@@ -17,4 +20,4 @@ returns c =
     cc
 
 pub fresh-spec : {M : Type 1} → statement M
-fresh-spec = tie.close (tie.spec no-identity-requires no-identity-requires-2 no-identifier-requires returns)
+fresh-spec = tie.close (tie.spec none-requires no-identity-requires no-identity-requires-2 no-identifier-requires returns)

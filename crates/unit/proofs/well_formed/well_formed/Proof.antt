@@ -46,11 +46,11 @@ identities-legal-requires c κs = search needs
 returns-5 : tie.Need-returns-5
 returns-5 c = sym (fails _ (λ e. clash (both (lines _ e .identity) (lines _ e .waiting)) (refuted (c .before .identities-legal .ensures) (c .if5 .taken))))
 
-nonce-legal-requires : tie.Need-nonce-legal-requires
-nonce-legal-requires c κs = search needs
+legal-requires : tie.Need-legal-requires
+legal-requires c κs = search needs
 
 returns-6 : tie.Need-returns-6
-returns-6 c = sym (fails _ (λ e. clash (lines _ e .nonce) (refuted (c .before .nonce-legal .ensures) (c .if6 .taken))))
+returns-6 c = sym (fails _ (λ e. clash (lines _ e .nonces) (refuted (c .before .legal .ensures) (c .if6 .taken))))
 
 sound-legal-requires : tie.Need-sound-legal-requires
 sound-legal-requires c κs =
@@ -73,8 +73,8 @@ returns-9 : tie.Need-returns-9
 returns-9 c =
     let protection = c .before .before in
     let sound = protection .before .before in
-    let nonce = sound .before .before .before in
-    let identity = nonce .before .before .before in
+    let nonces = sound .before .before .before in
+    let identity = nonces .before .before .before in
     let owner = identity .before .before .before .before in
     let accounts = owner .before .before in
     let numbers = accounts .before .before .before in
@@ -96,7 +96,7 @@ returns-9 c =
       owner = granted (owner .before .owner-legal .ensures) (owner .if4 .left);
       identity = and-left _ _ keys;
       waiting = and-right (identityLegal (u .identity) (u .accounts .owner)) _ keys;
-      nonce = granted (nonce .before .nonce-legal .ensures) (nonce .if6 .left);
+      nonces = granted (nonces .before .legal .ensures) (nonces .if6 .left);
       sound = granted (sound .before .sound-legal .ensures) (sound .if7 .left);
       protection = granted (protection .before .protection-legal .ensures) (protection .if8 .left);
       consent = leb-true _ _ (and-left _ _ later);
@@ -119,7 +119,7 @@ well-formed-spec =
     returns-4
     identities-legal-requires
     returns-5
-    nonce-legal-requires
+    legal-requires
     returns-6
     sound-legal-requires
     returns-7
