@@ -77,7 +77,7 @@ def main():
     wanted.update((header_name(n), value(n, exported)) for n in exported)
     parts = numbers(read("crates/desk/specs/Exported.antt"))
     wanted.update((header_name(n), value(n, {**sizes, **parts})) for n in parts)
-    wanted["TAG_WRONG_BYTE"] = int(re.search(r"^seenAs id \(seen\.WrongByte place\) = refused (\d+) place$", read("crates/frame/specs/Scanned.antt"), re.M)[1])
+    wanted["TAG_WRONG_BYTE"] = int(numbers(read("crates/frame/specs/Reader.antt"))["wrongByte"])
     calls = read("crates/primitives/specs/Calls.antt")
     wanted["TAG_LONGEST_MESSAGE"] = value("longestMessage", numbers(calls))
     wanted["TAG_WRONG_SIZE"] = int(re.search(r"^endNumber Ending\.WrongSize = (\d+)$", calls, re.M)[1])

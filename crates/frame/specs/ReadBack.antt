@@ -8,7 +8,7 @@ use mathlib.Core.List.{List, [], _++_}
 use lib.ListN.{length, take}
 use Rattle.frame.specs.declared.Flags.{Flags}
 use Rattle.frame.specs.Frame.{rendered, flagsFor}
-use Rattle.frame.specs.Reader.{Parts, Opened, reads, refused, frameOf, readFrame, readFrameWithR}
+use Rattle.frame.specs.Reader.{Parts, Opened, reads, refused, wrongByte, wrongSize, frameOf, readFrame, readFrameWithR}
 
 -- The parts of which the writer makes frames: any identifier of `size` bytes, any flags byte, and "our writer never omits flags under protection"
 pub record Sendable (size : ℕ) (p : Parts) : Type 0 where
@@ -57,15 +57,15 @@ pub record ReadBack (size : ℕ) : Type 0 where
   pub readWritten : (text : List ℕ) (p : Parts) → readFrame size text ≡ reads p → FrameOf size p text
   -- refused with 8 at the first wrong byte, and exactly then
   pub refusedThere : (text : List ℕ) (number place : ℕ) → readFrame size text ≡ refused number place
-      → (number ≡ 8) × FirstWrongAt (IsFrame size) text place
-  pub thereRefused : (text : List ℕ) (place : ℕ) → FirstWrongAt (IsFrame size) text place → readFrame size text ≡ refused 8 place
+      → (number ≡ wrongByte) × FirstWrongAt (IsFrame size) text place
+  pub thereRefused : (text : List ℕ) (place : ℕ) → FirstWrongAt (IsFrame size) text place → readFrame size text ≡ refused wrongByte place
 
 pub record ReadBackWithR (size : ℕ) (r : List ℕ) : Type 0 where
   -- "looked at only when the frame reads; refusal 1 if it isn't as long as its identifier"
   pub frameFirst : (text : List ℕ) (number place : ℕ) → readFrame size text ≡ refused number place
       → readFrameWithR size r text ≡ refused number place
   pub thenSize : (text : List ℕ) (p : Parts) → readFrame size text ≡ reads p → (length r ≡ size → ⊥)
-      → readFrameWithR size r text ≡ refused 1 0
+      → readFrameWithR size r text ≡ refused wrongSize 0
   -- "the battery level is recovered too"
   pub writtenReads : length r ≡ size → (id : List ℕ) (on : Bool) (battery : ℕ) → length id ≡ size → battery ≤ 3
       → readFrameWithR size r (rendered size id on (flagsFor battery on r))
@@ -73,6 +73,6 @@ pub record ReadBackWithR (size : ℕ) (r : List ℕ) : Type 0 where
   pub readWritten : (text : List ℕ) (o : Opened) → readFrameWithR size r text ≡ reads o → (length r ≡ size) × FrameWithR size r o text
   -- of a text that reads, r shows a wrong byte exactly where it is the first, of frames of this r
   pub refusedThere : (text : List ℕ) (p : Parts) (number place : ℕ) → readFrame size text ≡ reads p → length r ≡ size
-      → readFrameWithR size r text ≡ refused number place → (number ≡ 8) × FirstWrongAt (IsFrameWithR size r) text place
+      → readFrameWithR size r text ≡ refused number place → (number ≡ wrongByte) × FirstWrongAt (IsFrameWithR size r) text place
   pub thereRefused : (text : List ℕ) (p : Parts) (place : ℕ) → readFrame size text ≡ reads p → length r ≡ size
-      → FirstWrongAt (IsFrameWithR size r) text place → readFrameWithR size r text ≡ refused 8 place
+      → FirstWrongAt (IsFrameWithR size r) text place → readFrameWithR size r text ≡ refused wrongByte place

@@ -6,6 +6,7 @@ use lib.Dec.{eqb}
 use lib.ListN.{length, getD, take, drop, replicate}
 use lib.Bits.{bitXor}
 use Rattle.laws.specs.Bytes.{sameBytes}
+use Rattle.sizes.specs.Sizes.{frameIdentifierAt, frameFlagsAt}
 use Rattle.frame.specs.Frame.{rendered, flagsMask}
 use Rattle.frame.specs.declared.Flags.{Flags}
 
@@ -25,18 +26,32 @@ pub data Reading (A : Type 0) : Type 0 where
   reads : A → Reading A
   refused : (number place : ℕ) → Reading A
 
+-- "refuses with 8, new in the list", and "refusal 1" for an r of a wrong size
+abbrev pub wrongByte : ℕ
+wrongByte = 8
+
+abbrev pub wrongSize : ℕ
+wrongSize = 1
+
+-- Where the length byte and the byte of the frame's kind stand
+abbrev pub lengthAt : ℕ
+lengthAt = 3
+
+abbrev pub kindAt : ℕ
+kindAt = 7
+
 -- Whether the length byte says that there is a flags byte
 abbrev pub saysFlags : ℕ → List ℕ → Bool
-saysFlags size text = eqb (getD text 3 0) (size + 5)
+saysFlags size text = eqb (getD text lengthAt 0) (size + 5)
 
 -- The parts that a text claims, as its bytes stand there; where it ends before them, zeros. "After length 0x18, 0x41 is a wrong byte, since
 -- our writer never omits flags under protection": without a flags byte none claims protection
 unfoldable pub claimed : ℕ → List ℕ → Parts
 claimed size text =
     record {
-      identifier = take size (drop 8 text ++ replicate size 0);
-      protected = saysFlags size text && eqb (getD text 7 0) 0x41;
-      flags = cond (saysFlags size text) (Flags.Shown (getD text (8 + size) 0)) Flags.LeftOut;
+      identifier = take size (drop frameIdentifierAt text ++ replicate size 0);
+      protected = saysFlags size text && eqb (getD text kindAt 0) 0x41;
+      flags = cond (saysFlags size text) (Flags.Shown (getD text (frameFlagsAt size) 0)) Flags.LeftOut;
     }
 
 -- how many bytes two lists have in common, from the first on
@@ -55,7 +70,7 @@ firstWrong size text = common text (claimedFrame size text)
 
 unfoldable pub readFrame : ℕ → List ℕ → Reading Parts
 readFrame size text =
-    cond (sameBytes text (claimedFrame size text)) (reads (claimed size text)) (refused 8 (firstWrong size text))
+    cond (sameBytes text (claimedFrame size text)) (reads (claimed size text)) (refused wrongByte (firstWrong size text))
 
 -- "Given r .., the battery level is recovered too": what a frame says with it
 pub record Opened : Type 0 where
@@ -86,12 +101,12 @@ openedBy r size p Flags.LeftOut = reads (record { parts = p; battery = 0 })
 openedBy r size p (Flags.Shown byte) =
     cond (flagsRight (p .protected) (unmasked r byte))
     (reads (record { parts = p; battery = batteryLevel (unmasked r byte) }))
-    (refused 8 (8 + size))
+    (refused wrongByte (frameFlagsAt size))
 
 -- "looked at only when the frame reads; refusal 1 if it isn't as long as its identifier"
 abbrev pub withR : List ℕ → ℕ → Reading Parts → Reading Opened
 withR r size (refused number place) = refused number place
-withR r size (reads p) = cond (eqb (length r) size) (openedBy r size p (p .flags)) (refused 1 0)
+withR r size (reads p) = cond (eqb (length r) size) (openedBy r size p (p .flags)) (refused wrongSize 0)
 
 unfoldable pub readFrameWithR : ℕ → List ℕ → List ℕ → Reading Opened
 readFrameWithR size r text = withR r size (readFrame size text)

@@ -4,7 +4,7 @@ use mathlib.Core.Path.{_≡_}
 use mathlib.Core.Bool.{Bool}
 use mathlib.Core.List.{List}
 use lib.ListN.{replicate}
-use Rattle.sizes.specs.Sizes.{identifierSize}
+use Rattle.sizes.specs.Sizes.{identifierSize, frameIdentifierAt}
 use Rattle.frame.specs.declared.Flags.{Flags}
 use Rattle.frame.specs.declared.reader.Seen.{Seen}
 use Rattle.frame.specs.declared.reader.Seen.the-variants as seen
@@ -12,18 +12,18 @@ use Rattle.frame.specs.declared.reader.Scanned.{Scanned}
 use Rattle.frame.specs.declared.reader.SeenWithR.{SeenWithR}
 use Rattle.frame.specs.declared.reader.SeenWithR.the-variants as seenWithR
 use Rattle.frame.specs.declared.reader.ScannedWithR.{ScannedWithR}
-use Rattle.frame.specs.Reader.{Parts, Opened, Reading, reads, refused, saysFlags, firstWrong, openedBy}
+use Rattle.frame.specs.Reader.{Parts, Opened, Reading, reads, refused, wrongByte, wrongSize, saysFlags, firstWrong, openedBy}
 
 -- an answer beside the identifier's bytes
 abbrev pub seenAs : List ℕ → Seen → Reading Parts
 seenAs id (seen.Frame on flags) = reads (record { identifier = id; protected = on; flags = flags })
-seenAs id (seen.WrongByte place) = refused 8 place
+seenAs id (seen.WrongByte place) = refused wrongByte place
 
 abbrev pub seenWithRAs : List ℕ → SeenWithR → Reading Opened
 seenWithRAs id (seenWithR.Frame on flags battery) =
     reads (record { parts = record { identifier = id; protected = on; flags = flags }; battery = battery })
-seenWithRAs id (seenWithR.WrongByte place) = refused 8 place
-seenWithRAs id seenWithR.WrongSize = refused 1 0
+seenWithRAs id (seenWithR.WrongByte place) = refused wrongByte place
+seenWithRAs id seenWithR.WrongSize = refused wrongSize 0
 
 -- the identifier's bytes: zeros on a refusal
 abbrev pub identifierIn : Reading Parts → List ℕ
@@ -49,7 +49,7 @@ longestIdentifier = 250
 -- a text whose head is right, and says that there is a flags byte or not
 pub record RightHead (size : ℕ) (text : List ℕ) (flagged : Bool) : Type 0 where
   pub fits : size ≤ longestIdentifier
-  pub right : 8 ≤ firstWrong size text
+  pub right : frameIdentifierAt ≤ firstWrong size text
   pub says : saysFlags size text ≡ flagged
 
 -- what r shows of a frame, whatever its identifier

@@ -5,18 +5,26 @@ ghost use mathlib.Core.Bool.{true, false, cond};
 ghost use Prim.Native.Nat.{_+_, _≤_, _<_, min};
 ghost use lib.Dec.{ltb};
 ghost use lib.ListN.{length};
-ghost use Rattle.sizes.specs.Sizes.{identifierSize};
-ghost use Rattle.frame.specs.Reader.{saysFlags, claimed, firstWrong, readFrame, readFrameWithR, unmasked, flagsRight};
+ghost use Rattle.sizes.specs.Sizes.{identifierSize, frameIdentifierAt};
+ghost use Rattle.primitives.specs.Calls.{longestMessage};
+ghost use Rattle.frame.specs.Reader.{lengthAt, saysFlags, claimed, firstWrong, readFrame, readFrameWithR, unmasked, flagsRight};
 ghost use Rattle.frame.specs.Scanned.{seenAs, seenWithRAs, Scans, ScansWithR, longestIdentifier, RightHead, SeesWithR};
-use crate::FLAGS_AT;
 use crate::Flags;
-use crate::HEAD_SIZE;
+use crate::MASK_AT;
+use sizes::FRAME_FLAGS_AT;
+use sizes::FRAME_IDENTIFIER_AT;
 use sizes::IDENTIFIER_SIZE;
 
 // Where the length byte and the byte of the frame's kind stand in the head.
 const LENGTH_AT: usize = 3;
 
 const KIND_AT: usize = 7;
+
+// The number of the refusal of a text that is no frame.
+pub const WRONG_BYTE: u64 = 8;
+
+// And of an r that is not as long as the identifier.
+pub const WRONG_SIZE: u64 = 1;
 
 // A text as a frame: its protection bit and its flags byte; or refusal 8, with the place of the first wrong byte.
 pub enum Seen {
@@ -44,7 +52,7 @@ pub struct ScannedWithR {
 
 // Whether the length byte says that there is a flags byte, behind an identifier of `size` bytes.
 fn says_flags(text: &[u8], size: usize) -> bool
-    requires { ⌜ (3 < length (now text)) × (size ≤ longestIdentifier) ⌝ }
+    requires { ⌜ (lengthAt < length (now text)) × (size ≤ longestIdentifier) ⌝ }
     ensures { λ r. ⌜ r ≡ saysFlags size (now (text .entry)) ⌝ }
 {
     text[LENGTH_AT] as usize == size + 5
@@ -52,7 +60,7 @@ fn says_flags(text: &[u8], size: usize) -> bool
 
 // Whether the byte at a place of the head may stand there, after bytes that may.
 fn right(text: &[u8], at: usize, size: usize) -> bool
-    requires { ⌜ (at < 8) × ((at < length (now text)) × ((at ≤ firstWrong size (now text)) × (size ≤ longestIdentifier))) ⌝ }
+    requires { ⌜ (at < frameIdentifierAt) × ((at < length (now text)) × ((at ≤ firstWrong size (now text)) × (size ≤ longestIdentifier))) ⌝ }
     ensures { λ r. ⌜ r ≡ ltb at (firstWrong size (now (text .entry))) ⌝ }
 {
     let byte = text[at];
@@ -71,10 +79,10 @@ fn right(text: &[u8], at: usize, size: usize) -> bool
 // How many bytes of the head are right, from the first on.
 fn head_right(text: &[u8], size: usize) -> usize
     requires { ⌜ size ≤ longestIdentifier ⌝ }
-    ensures { λ r. ⌜ r ≡ min 8 (firstWrong size (now (text .entry))) ⌝ }
+    ensures { λ r. ⌜ r ≡ min frameIdentifierAt (firstWrong size (now (text .entry))) ⌝ }
 {
     let mut at = 0;
-    while at < HEAD_SIZE {
+    while at < FRAME_IDENTIFIER_AT {
         if text.len() <= at {
             return at;
         }
@@ -83,7 +91,7 @@ fn head_right(text: &[u8], size: usize) -> usize
         }
         at += 1;
     }
-    HEAD_SIZE
+    FRAME_IDENTIFIER_AT
 }
 
 // A text with a right head that says no flags byte: any bytes may follow, as many as the identifier has.
@@ -91,7 +99,7 @@ fn bare(text: &[u8], size: usize) -> Seen
     requires { ⌜ RightHead size (now text) false ⌝ }
     ensures { λ r. ⌜ seenAs (claimed size (now (text .entry)) .identifier) r ≡ readFrame size (now (text .entry)) ⌝ }
 {
-    let whole = HEAD_SIZE + size;
+    let whole = FRAME_IDENTIFIER_AT + size;
     if text.len() < whole {
         return Seen::WrongByte(text.len());
     }
@@ -109,7 +117,7 @@ fn flagged(text: &[u8], size: usize) -> Seen
     requires { ⌜ RightHead size (now text) true ⌝ }
     ensures { λ r. ⌜ seenAs (claimed size (now (text .entry)) .identifier) r ≡ readFrame size (now (text .entry)) ⌝ }
 {
-    let flags_at = HEAD_SIZE + size;
+    let flags_at = FRAME_IDENTIFIER_AT + size;
     if text.len() <= flags_at {
         return Seen::WrongByte(text.len());
     }
@@ -128,7 +136,7 @@ fn judged(text: &[u8], size: usize) -> Seen
     ensures { λ r. ⌜ seenAs (claimed size (now (text .entry)) .identifier) r ≡ readFrame size (now (text .entry)) ⌝ }
 {
     let at = head_right(text, size);
-    if at < HEAD_SIZE {
+    if at < FRAME_IDENTIFIER_AT {
         return Seen::WrongByte(at);
     }
     if says_flags(text, size) {
@@ -148,7 +156,7 @@ pub fn read(text: &[u8]) -> Scanned
             id: [0; IDENTIFIER_SIZE],
         },
         Seen::Frame { on: _, flags: _ } => {
-            let id = octets::twenty(&text[HEAD_SIZE..FLAGS_AT]);
+            let id = octets::twenty(&text[FRAME_IDENTIFIER_AT..FRAME_FLAGS_AT]);
             Scanned { seen, id }
         }
     }
@@ -156,11 +164,11 @@ pub fn read(text: &[u8]) -> Scanned
 
 // The flags byte as it was before the XOR with the last byte of SHA-256 of r.
 fn unmask(byte: u8, r: &[u8]) -> u8
-    requires { ⌜ length (now r) ≤ 65535 ⌝ }
+    requires { ⌜ length (now r) ≤ longestMessage ⌝ }
     ensures { λ f. ⌜ f ≡ unmasked (now (r .entry)) byte ⌝ }
 {
     let d = primitives::hash_pair(r, b"");
-    byte ^ d[31]
+    byte ^ d[MASK_AT]
 }
 
 // A flag as a byte.
@@ -180,7 +188,7 @@ fn flags_right(on: bool, f: u8) -> bool
 
 // What r shows of a frame that reads.
 fn opened(on: bool, flags: Flags, r: &[u8]) -> SeenWithR
-    requires { ⌜ length (now r) ≤ 65535 ⌝ }
+    requires { ⌜ length (now r) ≤ longestMessage ⌝ }
     ensures { λ s. ⌜ SeesWithR on flags (now (r .entry)) s ⌝ }
 {
     match flags {
@@ -198,7 +206,7 @@ fn opened(on: bool, flags: Flags, r: &[u8]) -> SeenWithR
                     battery: f / 2 % 4,
                 };
             }
-            SeenWithR::WrongByte(FLAGS_AT)
+            SeenWithR::WrongByte(FRAME_FLAGS_AT)
         }
     }
 }

@@ -33,6 +33,16 @@ identityKeySize = 32
 abbrev pub identifierSize : ℕ
 identifierSize = 20
 
+-- "02 01 06, length 0x18 or 0x19, 16 AA FE, 0x40 (0x41 under protection), identifier: 28 bytes, or 29 with the flags byte"
+abbrev pub frameIdentifierAt : ℕ
+frameIdentifierAt = 8
+
+abbrev pub frameFlagsAt : ℕ → ℕ
+frameFlagsAt size = frameIdentifierAt + size
+
+abbrev pub longestFrame : ℕ
+longestFrame = frameFlagsAt identifierSize + 1
+
 -- "A write is ID, length, 8 tag bytes, additional data"
 abbrev pub headSize : ℕ
 headSize = 2 + tagSize

@@ -15,6 +15,13 @@ pub const IDENTITY_KEY_SIZE: usize = 32;
 
 pub const IDENTIFIER_SIZE: usize = 20;
 
+// A frame: where its identifier stands, behind the head, and its flags byte, and the bytes of one that has it.
+pub const FRAME_IDENTIFIER_AT: usize = 8;
+
+pub const FRAME_FLAGS_AT: usize = FRAME_IDENTIFIER_AT + IDENTIFIER_SIZE;
+
+pub const LONGEST_FRAME: usize = FRAME_FLAGS_AT + 1;
+
 // The account keys that a unit has room for.
 pub const MOST_KEYS: usize = 5;
 
