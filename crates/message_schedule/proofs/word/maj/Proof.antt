@@ -1,8 +1,8 @@
 -- `compression::word::maj` is Maj in its short form.
 use borrow.Author.Needs.{needs}
-use Rattle.compression.proofs.Digits.{short-maj}
-use Rattle.compression.proofs.word.maj.Statement.{statement}
-use Rattle.compression.proofs.word.maj.Tie as tie
+use Rattle.message_schedule.proofs.Digits.{short-maj}
+use Rattle.message_schedule.proofs.word.maj.Statement.{statement}
+use Rattle.message_schedule.proofs.word.maj.Tie as tie
 
 returns : tie.Need-returns
 returns c = short-maj (c .args .x) (c .args .y) (c .args .z) (search needs) (search needs) (search needs)

@@ -1,10 +1,10 @@
 -- `compression::schedule::next_word` makes a word in the place of the one sixteen before it.
 use denote.Ref.{now}
-use Rattle.compression.proofs.Words.{sumOf}
-use Rattle.compression.proofs.Turns.{made-next}
+use Rattle.message_schedule.proofs.Words.{sumOf}
+use Rattle.message_schedule.proofs.Window.{made-next}
 use borrow.Author.Needs.{needs}
-use Rattle.compression.proofs.schedule.next_word.Statement.{statement}
-use Rattle.compression.proofs.schedule.next_word.Tie as tie
+use Rattle.message_schedule.proofs.schedule.next_word.Statement.{statement}
+use Rattle.message_schedule.proofs.schedule.next_word.Tie as tie
 
 add-word-from : tie.Need-add-word-from
 add-word-from c = search needs

@@ -9,7 +9,7 @@ use lib.ListN.{length, getD, set, drop, length-append, length-drop, List·getD-a
 use lib.Seq.{getD-at, getD-drop}
 use Rattle.laws.specs.Bytes.{tabulate}
 use Rattle.laws.proofs.Tabulate.{length-tabulate, getD-tabulate, is-tabulate, tabulate-suc, filledTo, filled-turn, filled-all, filled-done, filled-rest}
-use Rattle.compression.specs.Compression.{mod32, σ0, σ1, nextWord, schedule, W}
+use Rattle.message_schedule.specs.Schedule.{mod32, σ0, σ1, nextWord, schedule, W}
 
 -- the sum of nextWord over any words
 unfoldable pub sumOf : (w2 w7 w15 w16 : ℕ) → ℕ

@@ -1,8 +1,8 @@
 -- `compression::word::ch` is Ch in its short form.
 use borrow.Author.Needs.{needs}
-use Rattle.compression.proofs.Digits.{short-ch}
-use Rattle.compression.proofs.word.ch.Statement.{statement}
-use Rattle.compression.proofs.word.ch.Tie as tie
+use Rattle.message_schedule.proofs.Digits.{short-ch}
+use Rattle.message_schedule.proofs.word.ch.Statement.{statement}
+use Rattle.message_schedule.proofs.word.ch.Tie as tie
 
 returns : tie.Need-returns
 returns c = short-ch (c .args .x) (c .args .y) (c .args .z) (search needs) (search needs) (search needs)

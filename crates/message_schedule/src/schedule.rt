@@ -3,8 +3,8 @@ use super::word::small_sigma0;
 use super::word::small_sigma1;
 ghost use mathlib.Core.Path.{_≡_};
 ghost use Prim.Native.Nat.{ℕ, _+_, _*_, _≤_, _<_};
-ghost use Rattle.compression.specs.Compression.{mod32, σ0, σ1};
-ghost use Rattle.compression.specs.Window.{Made};
+ghost use Rattle.message_schedule.specs.Schedule.{mod32, σ0, σ1};
+ghost use Rattle.message_schedule.specs.Window.{Made};
 
 // W_t from W_(t-2), W_(t-7), W_(t-15) and W_(t-16).
 fn word_from(w2: u32, w7: u32, w15: u32, w16: u32) -> u32

@@ -1,8 +1,8 @@
 -- `compression::word::big_sigma0` is Σ0, by computation.
 use mathlib.Core.Path.{refl}
-use Rattle.compression.specs.Compression.{Σ0}
-use Rattle.compression.proofs.word.big_sigma0.Statement.{statement}
-use Rattle.compression.proofs.word.big_sigma0.Tie as tie
+use Rattle.message_schedule.specs.Schedule.{Σ0}
+use Rattle.message_schedule.proofs.word.big_sigma0.Statement.{statement}
+use Rattle.message_schedule.proofs.word.big_sigma0.Tie as tie
 
 returns : tie.Need-returns
 unfolding Σ0

@@ -4,8 +4,7 @@ use Prim.Native.Nat.{ℕ, _+_, _-_, _%_, _≤_, _<_}
 use mathlib.Core.Path.{_≡_}
 use mathlib.Core.List.{List}
 use lib.ListN.{length, getD}
-use Rattle.compression.specs.Compression.{W, turns}
-use Rattle.compression.specs.declared.Working.{Working}
+use Rattle.message_schedule.specs.Schedule.{W}
 
 -- Before step t the sixteen words of the buffer w are the schedule's words t - 16 to t - 1, and words 0 to 15 up to step 16 (the difference
 -- is 0 there). Word s stands at place s modulo 16.
@@ -15,7 +14,3 @@ Holds M t w = (length w ≡ 16) × ((s : ℕ) → t - 16 ≤ s → s < t - 16 + 
 -- Word t is given, and the buffer w has become the one of the next step: for every block M whose words w holds.
 abbrev pub Made : ℕ → List ℕ → List ℕ → ℕ → Type 0
 Made t w w′ x = (M : List ℕ) → length M ≡ 16 → Holds M t w → Holds M (t + 1) w′ × (x ≡ W M t)
-
--- n turns from turn t on: the working variables v and the buffer w have become those after n more turns, for every block M and hash value H.
-pub record Taken (n t : ℕ) (w w′ : List ℕ) (v v′ : Working) : Type 0 where
-  pub leads : (M : List ℕ) (H : Working) → length M ≡ 16 → Holds M t w → v ≡ turns M t H → Holds M (t + n) w′ × (v′ ≡ turns M (t + n) H)

@@ -1,6 +1,6 @@
 // The six functions of FIPS 180-4, §4.1.2.
 ghost use mathlib.Core.Path.{_≡_};
-ghost use Rattle.compression.specs.Compression.{Ch, Maj, Σ0, Σ1, σ0, σ1};
+ghost use Rattle.message_schedule.specs.Schedule.{Ch, Maj, Σ0, Σ1, σ0, σ1};
 
 pub fn ch(x: u32, y: u32, z: u32) -> u32
     ensures { λ r. ⌜ r ≡ Ch x y z ⌝ }

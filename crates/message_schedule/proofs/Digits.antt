@@ -9,7 +9,7 @@ use lib.Bits.{bitAnd, bitXor, and-shr, xor-shr, and-mod, xor-mod}
 use lib.Dec.{T}
 use lib.ListN.{getD}
 use Rattle.laws.proofs.Table.{sameBelow, below}
-use Rattle.compression.specs.Compression.{Ch, Maj}
+use Rattle.message_schedule.specs.Schedule.{Ch, Maj}
 
 by-halves : (x y : ℕ) → x / 2 ≡ y / 2 → x % 2 ≡ y % 2 → x ≡ y
 by-halves x y h o = omega arith

@@ -1,8 +1,8 @@
 -- `compression::word::small_sigma1` is σ1, by computation.
 use mathlib.Core.Path.{refl}
-use Rattle.compression.specs.Compression.{σ1}
-use Rattle.compression.proofs.word.small_sigma1.Statement.{statement}
-use Rattle.compression.proofs.word.small_sigma1.Tie as tie
+use Rattle.message_schedule.specs.Schedule.{σ1}
+use Rattle.message_schedule.proofs.word.small_sigma1.Statement.{statement}
+use Rattle.message_schedule.proofs.word.small_sigma1.Tie as tie
 
 returns : tie.Need-returns
 unfolding σ1
