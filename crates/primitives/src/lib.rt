@@ -1,6 +1,6 @@
 // The hash, the message authentication code and the block cipher that the tag uses: the public calls, which refuse a wrong size with 7,
 // and the same work on sizes that are known to be right, for the crates above.
-pub use hash::Keyed;
+pub use hmac::Keyed;
 ghost use mathlib.Core.Path.{_≡_};
 ghost use mathlib.Core.List.{List, _++_};
 ghost use Prim.Native.Nat.{ℕ, _≤_};
@@ -134,7 +134,7 @@ pub fn mac(key: &[u8], head: &[u8], tail: &[u8], last: &[u8]) -> [u8; 32]
     requires { ⌜ (length (now key) ≤ 65535) × ((length (now head) ≤ 65535) × ((length (now tail) ≤ 65535) × (length (now last) ≤ 65535))) ⌝ }
     ensures { λ r. ⌜ r ≡ HMAC (now (key .entry)) (now (head .entry) ++ (now (tail .entry) ++ now (last .entry))) ⌝ }
 {
-    hash::hmac(key, head, tail, last)
+    hmac::hmac(key, head, tail, last)
 }
 
 // A key of HMAC made ready, for several messages.
@@ -142,7 +142,7 @@ pub fn ready_key(key: &[u8]) -> Keyed
     requires { ⌜ length (now key) ≤ 65535 ⌝ }
     ensures { λ r. ⌜ r ≡ keyedBy (now (key .entry)) ⌝ }
 {
-    hash::ready_key(key)
+    hmac::ready_key(key)
 }
 
 // HMAC under a key that was made ready, of a head, a tail and a last part, one after the other; none of them is copied.
@@ -150,7 +150,7 @@ pub fn mac_under(key: Keyed, head: &[u8], tail: &[u8], last: &[u8]) -> [u8; 32]
     requires { ⌜ (length (now head) ≤ 65535) × ((length (now tail) ≤ 65535) × (length (now last) ≤ 65535)) ⌝ }
     ensures { λ r. ⌜ ((k : List ℕ) → key ≡ keyedBy k → r ≡ HMAC k (now (head .entry) ++ (now (tail .entry) ++ now (last .entry)))) ⌝ }
 {
-    hash::hmac_under(key, head, tail, last)
+    hmac::hmac_under(key, head, tail, last)
 }
 
 // AES-128 of one block.
