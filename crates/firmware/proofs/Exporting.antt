@@ -14,8 +14,8 @@ use Rattle.laws.specs.Answer.{Result, gives, refuses, lentAfter}
 use Rattle.laws.proofs.Flags.{true-or-false, clash}
 use Rattle.sizes.specs.Sizes.{answerRoom, accountKeySize, identifierSize, mostKeys, highestBattery}
 use Rattle.tables.specs.Rows.{among}
-use Rattle.primitives.specs.declared.Ending.{Ending}
-use Rattle.primitives.specs.Calls.{orRefusal, endNumber, numberOf, Ends as Digests}
+use Rattle.primitive_calls.specs.declared.Ending.{Ending}
+use Rattle.primitive_calls.specs.Calls.{orRefusal, endNumber, numberOf, Ends as Digests}
 use Rattle.unit.specs.declared.TagUnit.{TagUnit}
 use Rattle.unit.specs.declared.Sound.{Sound}
 use Rattle.unit.specs.declared.Reply.{Reply}

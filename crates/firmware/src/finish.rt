@@ -6,7 +6,7 @@ ghost use Prim.Native.Nat.{_+_};
 ghost use Rattle.unit.specs.Refusals.{endOf, refusalNumber};
 ghost use Rattle.stored.specs.Record.{recordSize};
 ghost use Rattle.firmware.specs.Exported.{refusalBase, spends as spendsNonce, writesBack, Finishes, digestCode};
-use primitives::Ending;
+use primitive_calls::Ending;
 use unit::Refusal;
 use unit::Reply;
 use unit::TagUnit;

@@ -4,7 +4,7 @@
 ghost use mathlib.Core.Bool.{not};
 ghost use lib.Dec.{eqb};
 ghost use lib.ListN.{length};
-ghost use Rattle.primitives.specs.Calls.{hashed, authenticated, encrypted, decrypted};
+ghost use Rattle.primitive_calls.specs.Calls.{hashed, authenticated, encrypted, decrypted};
 ghost use Rattle.desk.specs.Exported.{partsRead, partsReadWithR, ExportsReading};
 ghost use Rattle.tag.specs.Calls.{newUnit, call, elapsed as elapsedOf};
 ghost use Rattle.tag.specs.Calls as of;
@@ -196,7 +196,7 @@ pub extern "C" fn tag_frame_read_with_r(frame: &[u8], r: &[u8], parts: &mut [u8]
 pub extern "C" fn tag_sha256(message: &[u8], answer: &mut [u8]) -> u64
     ensures { λ code. ⌜ ExportsDigest (hashed (now (message .entry)) (length (now (answer .entry)))) code (now (answer .entry)) (now (answer .exit)) ⌝ }
 {
-    let end = primitives::sha256(message, answer);
+    let end = primitive_calls::sha256(message, answer);
     finish::digest_code(end, DIGEST_SIZE as u64)
 }
 
@@ -205,7 +205,7 @@ pub extern "C" fn tag_sha256(message: &[u8], answer: &mut [u8]) -> u64
 pub extern "C" fn tag_hmac_sha256(key: &[u8], message: &[u8], answer: &mut [u8]) -> u64
     ensures { λ code. ⌜ ExportsDigest (authenticated (now (key .entry)) (now (message .entry)) (length (now (answer .entry)))) code (now (answer .entry)) (now (answer .exit)) ⌝ }
 {
-    let end = primitives::hmac_sha256(key, message, answer);
+    let end = primitive_calls::hmac_sha256(key, message, answer);
     finish::digest_code(end, DIGEST_SIZE as u64)
 }
 
@@ -214,7 +214,7 @@ pub extern "C" fn tag_hmac_sha256(key: &[u8], message: &[u8], answer: &mut [u8])
 pub extern "C" fn tag_aes128_encrypt(key: &[u8], block: &[u8], answer: &mut [u8]) -> u64
     ensures { λ code. ⌜ ExportsDigest (encrypted (now (key .entry)) (now (block .entry)) (length (now (answer .entry)))) code (now (answer .entry)) (now (answer .exit)) ⌝ }
 {
-    let end = primitives::aes128_encrypt(key, block, answer);
+    let end = primitive_calls::aes128_encrypt(key, block, answer);
     finish::digest_code(end, BLOCK_SIZE as u64)
 }
 
@@ -223,6 +223,6 @@ pub extern "C" fn tag_aes128_encrypt(key: &[u8], block: &[u8], answer: &mut [u8]
 pub extern "C" fn tag_aes128_decrypt(key: &[u8], block: &[u8], answer: &mut [u8]) -> u64
     ensures { λ code. ⌜ ExportsDigest (decrypted (now (key .entry)) (now (block .entry)) (length (now (answer .entry)))) code (now (answer .entry)) (now (answer .exit)) ⌝ }
 {
-    let end = primitives::aes128_decrypt(key, block, answer);
+    let end = primitive_calls::aes128_decrypt(key, block, answer);
     finish::digest_code(end, BLOCK_SIZE as u64)
 }

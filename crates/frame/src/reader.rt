@@ -6,7 +6,7 @@ ghost use Prim.Native.Nat.{_+_, _≤_, _<_, min};
 ghost use lib.Dec.{ltb};
 ghost use lib.ListN.{length};
 ghost use Rattle.sizes.specs.Sizes.{identifierSize, frameIdentifierAt};
-ghost use Rattle.primitives.specs.Calls.{longestMessage};
+ghost use Rattle.sizes.specs.Sizes.{longestMessage};
 ghost use Rattle.frame.specs.Reader.{lengthAt, saysFlags, claimed, firstWrong, readFrame, readFrameWithR, unmasked, flagsRight};
 ghost use Rattle.frame.specs.Scanned.{seenAs, seenWithRAs, Scans, ScansWithR, longestIdentifier, RightHead, SeesWithR};
 use crate::Flags;

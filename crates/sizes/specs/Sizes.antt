@@ -15,6 +15,10 @@ blockSize = 16
 abbrev pub digestSize : ℕ
 digestSize = 32
 
+-- "SHA-256 and HMAC over messages up to 65,535 bytes"
+abbrev pub longestMessage : ℕ
+longestMessage = 65535
+
 -- "Up to 5 account keys of 16 bytes"
 abbrev pub accountKeySize : ℕ
 accountKeySize = 16

@@ -9,6 +9,9 @@ pub const BLOCK_SIZE: usize = 16;
 
 pub const DIGEST_SIZE: usize = 32;
 
+// The longest message, and the longest key of HMAC.
+pub const LONGEST_MESSAGE: usize = 65535;
+
 pub const ACCOUNT_KEY_SIZE: usize = 16;
 
 pub const IDENTITY_KEY_SIZE: usize = 32;

@@ -3,11 +3,11 @@ use mathlib.Core.Path.{ap₂, _∙_}
 use native.Mathlib.Omega.{arith}
 use denote.Ref.{now}
 use borrow.Author.Needs.{needs}
 use Rattle.primitives.specs.Standards.{AES128}
-use Rattle.primitives.specs.Calls.{encrypted}
-use Rattle.primitives.proofs.Answered.{block-refused, block-given}
-use Rattle.primitives.proofs.aes128_encrypt.Statement.{statement}
-use Rattle.primitives.proofs.aes128_encrypt.Tie as tie
+use Rattle.primitive_calls.specs.Calls.{encrypted}
+use Rattle.primitive_calls.proofs.Answered.{block-refused, block-given}
+use Rattle.primitive_calls.proofs.aes128_encrypt.Statement.{statement}
+use Rattle.primitive_calls.proofs.aes128_encrypt.Tie as tie
 
 returns : tie.Need-returns
 unfolding encrypted

@@ -4,10 +4,10 @@ use mathlib.Core.List.{append-nil}
 use native.Mathlib.Omega.{arith}
 use denote.Ref.{now}
 use borrow.Author.Needs.{needs}
 use Rattle.primitives.specs.Standards.{SHA256}
-use Rattle.primitives.proofs.Answered.{hashed-refused, hashed-given}
-use Rattle.primitives.proofs.sha256.Statement.{statement}
-use Rattle.primitives.proofs.sha256.Tie as tie
+use Rattle.primitive_calls.proofs.Answered.{hashed-refused, hashed-given}
+use Rattle.primitive_calls.proofs.sha256.Statement.{statement}
+use Rattle.primitive_calls.proofs.sha256.Tie as tie
 
 returns : tie.Need-returns
 returns c =

@@ -2,9 +2,9 @@
 use mathlib.Core.Path.{sym}
 use denote.Ref.{now}
 use borrow.Author.Needs.{needs}
-use Rattle.primitives.proofs.Answered.{all-given}
-use Rattle.primitives.proofs.sixteen.Statement.{statement}
-use Rattle.primitives.proofs.sixteen.Tie as tie
+use Rattle.primitive_calls.proofs.Answered.{all-given}
+use Rattle.primitive_calls.proofs.sixteen.Statement.{statement}
+use Rattle.primitive_calls.proofs.sixteen.Tie as tie
 
 slice-aggregate-give : tie.Need-slice-aggregate-give
 slice-aggregate-give c = search needs

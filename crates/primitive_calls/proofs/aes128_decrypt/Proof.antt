@@ -3,11 +3,11 @@ use mathlib.Core.Path.{ap₂, _∙_}
 use native.Mathlib.Omega.{arith}
 use denote.Ref.{now}
 use borrow.Author.Needs.{needs}
 use Rattle.primitives.specs.Standards.{InvAES128}
-use Rattle.primitives.specs.Calls.{decrypted}
-use Rattle.primitives.proofs.Answered.{block-refused, block-given}
-use Rattle.primitives.proofs.aes128_decrypt.Statement.{statement}
-use Rattle.primitives.proofs.aes128_decrypt.Tie as tie
+use Rattle.primitive_calls.specs.Calls.{decrypted}
+use Rattle.primitive_calls.proofs.Answered.{block-refused, block-given}
+use Rattle.primitive_calls.proofs.aes128_decrypt.Statement.{statement}
+use Rattle.primitive_calls.proofs.aes128_decrypt.Tie as tie
 
 returns : tie.Need-returns
 unfolding decrypted

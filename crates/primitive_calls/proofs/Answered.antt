@@ -10,9 +10,10 @@ use lib.Dec.{T, leb, eqb, leb→le, eqb→eq}
 use lib.ListN.{length, length-append}
 use Rattle.laws.specs.Answer.{Result, gives, lentAfter}
 use Rattle.laws.proofs.Copied.{nothing-left}
 use Rattle.primitives.specs.Standards.{SHA256, HMAC}
-use Rattle.primitives.specs.Calls.{Ends, orRefusal, longestMessage, hashed, authenticated}
-use Rattle.primitives.specs.declared.Ending.{Ending}
+use Rattle.primitive_calls.specs.Calls.{Ends, orRefusal, hashed, authenticated}
+use Rattle.sizes.specs.Sizes.{longestMessage}
+use Rattle.primitive_calls.specs.declared.Ending.{Ending}
 
 -- an answer as long as the lent bytes is all that they hold after it
 pub lent-all : (answer before : List ℕ) → length answer ≡ length before → lentAfter (gives answer) before ≡ answer

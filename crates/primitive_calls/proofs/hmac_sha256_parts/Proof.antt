@@ -3,9 +3,9 @@ use mathlib.Core.List.{_++_}
 use native.Mathlib.Omega.{arith}
 use denote.Ref.{now}
 use borrow.Author.Needs.{needs}
-use Rattle.primitives.proofs.Answered.{length-three, authenticated-refused, authenticated-given}
-use Rattle.primitives.proofs.hmac_sha256_parts.Statement.{statement}
-use Rattle.primitives.proofs.hmac_sha256_parts.Tie as tie
+use Rattle.primitive_calls.proofs.Answered.{length-three, authenticated-refused, authenticated-given}
+use Rattle.primitive_calls.proofs.hmac_sha256_parts.Statement.{statement}
+use Rattle.primitive_calls.proofs.hmac_sha256_parts.Tie as tie
 
 returns : tie.Need-returns
 returns c =

@@ -5,13 +5,10 @@ use mathlib.Core.Bool.{Bool, cond, _&&_}
 use mathlib.Core.List.{List}
 use lib.Dec.{leb, eqb}
 use lib.ListN.{length}
+use Rattle.sizes.specs.Sizes.{longestMessage}
 use Rattle.laws.specs.Answer.{Result, gives, refuses, lentAfter}
 use Rattle.primitives.specs.Standards.{SHA256, HMAC, AES128, InvAES128}
-use Rattle.primitives.specs.declared.Ending.{Ending}
-
--- "SHA-256 and HMAC over messages up to 65,535 bytes"
-abbrev pub longestMessage : ℕ
-longestMessage = 65535
+use Rattle.primitive_calls.specs.declared.Ending.{Ending}
 
 -- "7: message or HMAC key over 65,535 bytes; AES key or block not 16 bytes; hash answer not 32 bytes, block answer not 16"
 unfoldable pub orRefusal : Bool → List ℕ → Result

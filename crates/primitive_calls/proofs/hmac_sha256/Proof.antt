@@ -2,8 +2,8 @@
 use mathlib.Core.List.{append-nil}
 use denote.Ref.{now}
 use borrow.Author.Needs.{needs}
-use Rattle.primitives.proofs.hmac_sha256.Statement.{statement}
-use Rattle.primitives.proofs.hmac_sha256.Tie as tie
+use Rattle.primitive_calls.proofs.hmac_sha256.Statement.{statement}
+use Rattle.primitive_calls.proofs.hmac_sha256.Tie as tie
 
 slice-aggregate-hmac-sha256-parts : tie.Need-slice-aggregate-hmac-sha256-parts
 slice-aggregate-hmac-sha256-parts c = search needs

@@ -10,9 +10,9 @@ use borrow.Author.Tests.{ltb-true, ltb-false}
 use lib.ListN.{length, length-set}
 use lib.Seq.{paste, paste-zero}
 use Rattle.laws.proofs.Copied.{copied-turn, copied-all, copied-over}
-use Rattle.primitives.proofs.Answered.{given-all, given-none}
-use Rattle.primitives.proofs.give.Statement.{statement}
-use Rattle.primitives.proofs.give.Tie as tie
+use Rattle.primitive_calls.proofs.Answered.{given-all, given-none}
+use Rattle.primitive_calls.proofs.give.Statement.{statement}
+use Rattle.primitive_calls.proofs.give.Tie as tie
 
 abbrev Inv-loop : tie.InvT-loop
 Inv-loop answer₀ bytes i₀ answer i = (i ≤ length bytes) × ((answer ≡ paste answer₀ 0 bytes i) × ((length answer ≡ length answer₀) × (1 ≤ i → length answer₀ ≡ length bytes)))
