@@ -79,7 +79,7 @@ def main():
     wanted.update((header_name(n), value(n, {**sizes, **parts})) for n in parts)
     wanted["TAG_WRONG_BYTE"] = int(numbers(read("crates/frame/specs/Reader.antt"))["wrongByte"])
     calls = read("crates/primitive_calls/specs/Calls.antt")
-    wanted["TAG_LONGEST_MESSAGE"] = value("longestMessage", numbers(calls))
+    wanted["TAG_LONGEST_MESSAGE"] = value("longestMessage", sizes)
     wanted["TAG_WRONG_SIZE"] = int(re.search(r"^endNumber Ending\.WrongSize = (\d+)$", calls, re.M)[1])
     for name, n in re.findall(r"^refusalNumber (\w+) = (0x[0-9a-fA-F]+|\d+)$", read("crates/unit/specs/Refusals.antt"), re.M):
         wanted[header_name(name)] = int(n, 0)
