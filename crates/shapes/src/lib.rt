@@ -1,6 +1,6 @@
 // Which writes have a legal shape.
 ghost use mathlib.Core.Path.{_≡_};
-ghost use Rattle.wire.specs.Shape.{sizeLegal};
+ghost use Rattle.shapes.specs.Lengths.{sizeLegal};
 
 // The length of a 0x02 that proves the key held.
 pub const PROVEN_SIZE: u8 = 48;

@@ -3,8 +3,8 @@ use mathlib.Core.Path.{_≡_}
 use Prim.Native.Nat.{_+_, _-_}
 use native.Mathlib.Omega.{arith}
 use borrow.Author.Needs.{needs}
-use Rattle.wire.proofs.blocks.block_at.Statement.{statement}
-use Rattle.wire.proofs.blocks.block_at.Tie as tie
+use Rattle.key_blocks.proofs.block_at.Statement.{statement}
+use Rattle.key_blocks.proofs.block_at.Tie as tie
 
 add-sixteen : tie.Need-add-sixteen
 add-sixteen c = search needs

@@ -2,10 +2,10 @@
 use mathlib.Core.Path.{refl}
 use mathlib.Core.Logic.{inl, inr, ⊎-elim}
 use Prim.Native.Nat.{_≤_}
-use Rattle.wire.specs.Shape.{legalSizes}
-use Rattle.wire.proofs.Sizes.{legal-one, legal-first, legal-second, legal-none, eight-first, above}
-use Rattle.wire.proofs.shape.size_legal.Statement.{statement}
-use Rattle.wire.proofs.shape.size_legal.Tie as tie
+use Rattle.shapes.specs.Lengths.{legalSizes}
+use Rattle.shapes.proofs.Sizes.{legal-one, legal-first, legal-second, legal-none, eight-first, above}
+use Rattle.shapes.proofs.size_legal.Statement.{statement}
+use Rattle.shapes.proofs.size_legal.Tie as tie
 
 returns : tie.Need-returns
 unfolding legalSizes

@@ -1,8 +1,8 @@
 -- `blocks::encrypted_key` meets its contract: the two blocks under one key.
-use Rattle.wire.specs.KeyBlocks.{encryptedKey}
+use Rattle.key_blocks.specs.KeyBlocks.{encryptedKey}
 use borrow.Author.Needs.{needs}
-use Rattle.wire.proofs.blocks.encrypted_key.Statement.{statement}
-use Rattle.wire.proofs.blocks.encrypted_key.Tie as tie
+use Rattle.key_blocks.proofs.encrypted_key.Statement.{statement}
+use Rattle.key_blocks.proofs.encrypted_key.Tie as tie
 
 slice-aggregate-block-at : tie.Need-slice-aggregate-block-at
 slice-aggregate-block-at c = search needs

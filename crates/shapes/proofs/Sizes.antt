@@ -7,7 +7,7 @@ use native.Mathlib.Omega.{arith}
 use borrow.Author.Tests.{eq-eqb, ne-eqb}
 use lib.Dec.{eqb}
 use lib.ListN.{getD, List·getD-eq-default}
-use Rattle.wire.specs.Shape.{legalSizes, oneOf, sizeLegal}
+use Rattle.shapes.specs.Lengths.{legalSizes, oneOf, sizeLegal}
 
 or-false : (b : Bool) → b ≡ b || false
 or-false true = refl

@@ -6,8 +6,8 @@ use native.Mathlib.Omega.{arith}
 use lib.ListN.{length, drop, replicate}
 use Rattle.laws.proofs.Copied.{copied-next, nothing-left}
 use borrow.Author.Needs.{needs}
-use Rattle.wire.proofs.blocks.joined.Statement.{statement}
-use Rattle.wire.proofs.blocks.joined.Tie as tie
+use Rattle.key_blocks.proofs.joined.Statement.{statement}
+use Rattle.key_blocks.proofs.joined.Tie as tie
 
 slice-aggregate-put : tie.Need-slice-aggregate-put
 slice-aggregate-put c = search needs

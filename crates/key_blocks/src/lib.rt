@@ -4,7 +4,7 @@ ghost use mathlib.Core.List.{_++_};
 ghost use Prim.Native.Nat.{_+_, _≤_};
 ghost use lib.ListN.{length, take, drop};
 ghost use Rattle.sizes.specs.Sizes.{blockSize, identityKeySize};
-ghost use Rattle.wire.specs.KeyBlocks.{decryptedKey, encryptedKey};
+ghost use Rattle.key_blocks.specs.KeyBlocks.{decryptedKey, encryptedKey};
 use sizes::ACCOUNT_KEY_SIZE;
 use sizes::BLOCK_SIZE;
 use sizes::IDENTITY_KEY_SIZE;

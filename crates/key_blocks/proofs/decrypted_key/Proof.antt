@@ -1,8 +1,8 @@
 -- `blocks::decrypted_key` meets its contract: the two blocks under one key.
-use Rattle.wire.specs.KeyBlocks.{decryptedKey}
+use Rattle.key_blocks.specs.KeyBlocks.{decryptedKey}
 use borrow.Author.Needs.{needs}
-use Rattle.wire.proofs.blocks.decrypted_key.Statement.{statement}
-use Rattle.wire.proofs.blocks.decrypted_key.Tie as tie
+use Rattle.key_blocks.proofs.decrypted_key.Statement.{statement}
+use Rattle.key_blocks.proofs.decrypted_key.Tie as tie
 
 block-at-requires : tie.Need-block-at-requires
 block-at-requires c κs = search needs
