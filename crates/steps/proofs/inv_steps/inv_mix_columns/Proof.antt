@@ -1,6 +1,6 @@
 -- `rounds::inv_steps::inv_mix_columns` mixes the four columns.
-use Rattle.laws.specs.Bytes.{tabulate}
-use Rattle.steps.specs.Steps.{stateOf, mixed, InvMixColumns}
+use Rattle.steps.specs.Steps.{InvMixColumns}
+use Rattle.steps.proofs.Mixing.{columns-mixed}
 use borrow.Author.Needs.{needs}
 use Rattle.steps.proofs.inv_steps.inv_mix_columns.Statement.{statement}
 use Rattle.steps.proofs.inv_steps.inv_mix_columns.Tie as tie
@@ -114,9 +114,9 @@ array-read-t87 : tie.Need-array-read-t87
 array-read-t87 c = search needs
 
 returns : tie.Need-returns
-unfolding InvMixColumns mixed stateOf tabulate
+unfolding InvMixColumns
 returns c =
-    rw (c .before .before .before .unmixed-column .ensures, c .before .before .unmixed-column2 .ensures, c .before .unmixed-column3 .ensures, c .unmixed-column4 .ensures)
+    columns-mixed 0x0e 0x09 0x0d 0x0b _ _ _ _ _ (c .before .before .before .unmixed-column .ensures) (c .before .before .unmixed-column2 .ensures) (c .before .unmixed-column3 .ensures) (c .unmixed-column4 .ensures)
 
 pub inv-mix-columns-spec : {M : Type 1} → statement M
 inv-mix-columns-spec =

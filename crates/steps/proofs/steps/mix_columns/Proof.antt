@@ -1,6 +1,6 @@
 -- `rounds::steps::mix_columns` mixes the four columns.
-use Rattle.laws.specs.Bytes.{tabulate}
-use Rattle.steps.specs.Steps.{stateOf, mixed, MixColumns}
+use Rattle.steps.specs.Steps.{MixColumns}
+use Rattle.steps.proofs.Mixing.{columns-mixed}
 use borrow.Author.Needs.{needs}
 use Rattle.steps.proofs.steps.mix_columns.Statement.{statement}
 use Rattle.steps.proofs.steps.mix_columns.Tie as tie
@@ -114,9 +114,9 @@ array-read-t87 : tie.Need-array-read-t87
 array-read-t87 c = search needs
 
 returns : tie.Need-returns
-unfolding MixColumns mixed stateOf tabulate
+unfolding MixColumns
 returns c =
-    rw (c .before .before .before .mixed-column .ensures, c .before .before .mixed-column2 .ensures, c .before .mixed-column3 .ensures, c .mixed-column4 .ensures)
+    columns-mixed 0x02 0x01 0x01 0x03 _ _ _ _ _ (c .before .before .before .mixed-column .ensures) (c .before .before .mixed-column2 .ensures) (c .before .mixed-column3 .ensures) (c .mixed-column4 .ensures)
 
 pub mix-columns-spec : {M : Type 1} → statement M
 mix-columns-spec =
