@@ -7,9 +7,8 @@ ghost use Rattle.laws.specs.Answer.{Wrote};
 ghost use Rattle.sizes.specs.Sizes.{longestFrame};
 ghost use Rattle.desk.specs.Exported.{partsSize, partBytes, flagsShown, flagsByte, partsRead, partsReadWithR, ExportsReading, wrongByteCode};
 use frame::Flags;
-use frame::reader;
-use frame::reader::Seen;
-use frame::reader::SeenWithR;
+use frame_reader::Seen;
+use frame_reader::SeenWithR;
 use sizes::IDENTIFIER_SIZE;
 
 const REFUSAL_BASE: u64 = 256;
@@ -29,7 +28,7 @@ fn wrong_byte(at: usize) -> u64
     requires { ⌜ at ≤ longestFrame ⌝ }
     ensures { λ code. ⌜ code ≡ wrongByteCode at ⌝ }
 {
-    REFUSAL_BASE + reader::WRONG_BYTE + at as u64 * PLACE_BASE
+    REFUSAL_BASE + frame_reader::WRONG_BYTE + at as u64 * PLACE_BASE
 }
 
 fn flags_shown(flags: Flags) -> u8
@@ -55,7 +54,7 @@ fn put_parts(parts: &mut [u8], id: [u8; IDENTIFIER_SIZE], on: bool, flags: Flags
     requires { ⌜ partsSize ≤ length (now parts) ⌝ }
     ensures { λ _. ⌜ Wrote (partBytes (record { identifier = id; protected = on; flags = flags })) partsSize (now (parts .entry)) (now (parts .exit)) ⌝ }
 {
-    let rest = [reader::bit(on), flags_shown(flags), flags_byte(flags)];
+    let rest = [frame_reader::bit(on), flags_shown(flags), flags_byte(flags)];
     octets::put(parts, 0, &id);
     octets::put(parts, IDENTIFIER_SIZE, &rest);
 }
@@ -67,7 +66,7 @@ pub fn read(text: &[u8], parts: &mut [u8]) -> u64
     if parts.len() < PARTS_SIZE {
         return REFUSAL_BASE + NO_ROOM;
     }
-    let scanned = reader::read(text);
+    let scanned = frame_reader::read(text);
     let id = scanned.id;
     let seen = scanned.seen;
     match seen {
@@ -86,12 +85,12 @@ pub fn read_with_r(text: &[u8], r: &[u8], parts: &mut [u8]) -> u64
     if parts.len() < OPENED_SIZE {
         return REFUSAL_BASE + NO_ROOM;
     }
-    let scanned = reader::read_with_r(text, r);
+    let scanned = frame_reader::read_with_r(text, r);
     let id = scanned.id;
     let seen = scanned.seen;
     match seen {
         SeenWithR::WrongByte(at) => wrong_byte(at),
-        SeenWithR::WrongSize => REFUSAL_BASE + reader::WRONG_SIZE,
+        SeenWithR::WrongSize => REFUSAL_BASE + frame_reader::WRONG_SIZE,
         SeenWithR::Frame { on, flags, battery } => {
             put_parts(parts, id, on, flags);
             parts[PARTS_SIZE] = battery;

@@ -35,7 +35,7 @@ use Rattle.tag.specs.Own.{nonceFits, issuing, pressed, charged, keeping, discon
 use Rattle.tag.specs.Calls.{newUnit, Call, read, write, button, pairing, battery, accountKey, disconnect, identifier, frame, own, lends, guarded, call, elapsed}
 use Rattle.stored.specs.Record.{decoded, encoded, recordSize}
 use Rattle.stored.proofs.RoundTrip.{other-length, noUnit-malformed}
-use Rattle.firmware.specs.Exported.{endedBase, code, resultCode, recordAfter, bytesAfter, endCode, writesBack, Exports, ExportsAnswer, ExportsDigest, Finishes, digestCode}
+use Rattle.exports.specs.Exported.{endedBase, code, resultCode, recordAfter, bytesAfter, endCode, writesBack, Exports, ExportsAnswer, ExportsDigest, Finishes, digestCode}
 
 -- bytes that mean a well-formed unit are a whole record
 well-formed-length : (b : List ℕ) → wellFormed (decoded b) ≡ true → length b ≡ recordSize

@@ -13,10 +13,8 @@ use sizes::FRAME_IDENTIFIER_AT;
 use sizes::IDENTIFIER_SIZE;
 use sizes::LONGEST_FRAME;
 
-pub mod reader;
-
 // The last byte of SHA-256 of r, which hides the flags byte.
-const MASK_AT: usize = DIGEST_SIZE - 1;
+pub const MASK_AT: usize = DIGEST_SIZE - 1;
 
 // The hashed flags byte of a frame, where there is one.
 pub enum Flags {

@@ -6,12 +6,11 @@ ghost use Prim.Native.Nat.{_+_, _≤_};
 ghost use lib.ListN.{length};
 ghost use Rattle.sizes.specs.Sizes.{identifierSize, longestFrame};
 ghost use Rattle.notation.specs.Written.{PutsText};
-ghost use Rattle.frame.specs.Reader.{wrongByte, readFrame};
+ghost use Rattle.frame_reader.specs.Reader.{wrongByte, readFrame};
 ghost use Rattle.frame_text.specs.Answers.{longestLine, malformedText, protectionText, flagsText, partsText, refusalText, readingText, lineText};
 ghost use Rattle.frame_text.specs.Taking.{soFar, longer as longerBy, closed as closedAs, ends, Says, Takes};
 use frame::Flags;
-use frame::reader;
-use frame::reader::Seen;
+use frame_reader::Seen;
 use notation::reading;
 use notation::reading::Octets;
 use notation::text;
@@ -136,7 +135,7 @@ fn answer(line: &[u8]) -> Text
 fn told(frame: &[u8]) -> Text
     ensures { λ r. ⌜ Says (readingText (readFrame identifierSize (now (frame .entry)))) r ⌝ }
 {
-    let scanned = reader::read(frame);
+    let scanned = frame_reader::read(frame);
     let id = scanned.id;
     let seen = scanned.seen;
     match seen {
