@@ -17,7 +17,7 @@ use Rattle.session.specs.Feeding.{finish}
 use Rattle.notation.specs.Written.{PutsText}
 use Rattle.session.specs.Session.{stateOf, finishRoom, Finishes}
 use Rattle.notation.proofs.Placed.{placed-first, puts-nothing}
-use Rattle.events.specs.Event.{malformedText}
+use Rattle.printing.specs.Texts.{malformedText}
 
 module _ (s : Session) (before : List ℕ) where
   pub no-room : length before < finishRoom → Finishes s before finished.NoRoom before

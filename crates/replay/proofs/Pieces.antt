@@ -19,8 +19,8 @@ use Rattle.session.specs.Session.{BoundedRun, Bounded, stateOf, expectedOf, tak
 use Rattle.session.specs.Closing.{Closes, Takes}
 use Rattle.notation.proofs.Placed.{puts-then, puts-nothing, placed-first}
 use Rattle.session.proofs.AnyPieces.{fed-append, fed-ended}
-use Rattle.events.specs.Event.{malformedText}
-use Rattle.events.specs.Promises.{lineRoom}
+use Rattle.printing.specs.Texts.{malformedText}
+use Rattle.printing.specs.Answers.{lineRoom}
 
 -- after the first bytes of a piece
 pub record Passed (s : Session) (piece before : List ℕ) (session : Session) (written taken : ℕ) (out : List ℕ) : Type 0 where

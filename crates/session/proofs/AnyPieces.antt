@@ -15,7 +15,8 @@ use Rattle.tag.specs.Calls.{newUnit}
 use Rattle.notation.specs.Text.{newline}
 use Rattle.session.specs.Replay.{judged, done, run, lines, File, mayEnd, longestLine, replay, begun, onto}
 use Rattle.session.specs.Feeding.{State, reading, ended, Fed, fed, fedTo, byte, closed, finish, first, inPieces, whole, AnyPieces, beginning}
-use Rattle.events.specs.Event.{performed, printed, refusedText, malformedText}
+use Rattle.events.specs.Event.{performed, printed}
+use Rattle.printing.specs.Texts.{refusedText, malformedText}
 use Rattle.lines.specs.Lines.{Expected, Line, follows, brings, setsUp, breaks, event, inside}
 
 -- Feeding goes over append

@@ -26,7 +26,8 @@ use Rattle.session.specs.Feeding.{reading, ended, Fed, fedTo, closed, be
 use Rattle.session.specs.Session.{BoundedRun, stateWith, expectedOf}
 use Rattle.session.specs.Closing.{Closes, ClosesLine, Ready, moved}
 use Rattle.notation.proofs.Placed.{puts-nothing}
-use Rattle.events.specs.Event.{Event, refusedText}
+use Rattle.events.specs.Event.{Event}
+use Rattle.printing.specs.Texts.{refusedText}
 use Rattle.events.specs.Promises.{Performs}
 use Rattle.lines.specs.Lines.{Awaited, event, inside, Line, follows, brings, breaks, taken}
 use Rattle.lines.specs.Promises.{awaiting, expecting, lineOf}

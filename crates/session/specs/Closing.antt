@@ -6,7 +6,7 @@ use mathlib.Core.List.{List, []}
 use lib.ListN.{length}
 use Rattle.unit.specs.declared.TagUnit.{TagUnit}
 use Rattle.notation.specs.Written.{PutsText}
-use Rattle.events.specs.Promises.{lineRoom}
+use Rattle.printing.specs.Answers.{lineRoom}
 use Rattle.lines.specs.declared.Next.{Next}
 use Rattle.lines.specs.Lines.{Line}
 use Rattle.session.specs.declared.Run.{Run}

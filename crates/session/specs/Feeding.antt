@@ -12,7 +12,8 @@ use Rattle.unit.specs.Change.{noUnit}
 use Rattle.tag.specs.Calls.{newUnit}
 use Rattle.notation.specs.Text.{newline}
 use Rattle.session.specs.Replay.{judged, longestLine, mayEnd, replay}
-use Rattle.events.specs.Event.{performed, printed, refusedText, malformedText}
+use Rattle.events.specs.Event.{performed, printed}
+use Rattle.printing.specs.Texts.{refusedText, malformedText}
 use Rattle.lines.specs.Lines.{Expected, power, event, inside, Line, follows, brings, setsUp, breaks}
 
 -- A run that goes on, with what is expected, the number of the line that is being read, its bytes so far, and the unit; or one that ended

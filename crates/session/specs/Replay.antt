@@ -11,7 +11,8 @@ use Rattle.unit.specs.Outcome.{Outcome}
 use Rattle.unit.specs.Change.{noUnit}
 use Rattle.tag.specs.Calls.{newUnit}
 use Rattle.notation.specs.Text.{newline}
-use Rattle.events.specs.Event.{performed, refusedText, malformedText, printed}
+use Rattle.events.specs.Event.{performed, printed}
+use Rattle.printing.specs.Texts.{refusedText, malformedText}
 use Rattle.lines.specs.Lines.{Expected, power, event, inside, Line, follows, brings, setsUp, breaks, taken}
 
 -- "at most 256 bytes a line and 999,999 lines"

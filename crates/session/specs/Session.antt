@@ -10,7 +10,7 @@ use Rattle.session.specs.declared.Run.{Run}
 use Rattle.session.specs.declared.Session.{Session}
 use Rattle.session.specs.declared.Finished.{Finished}
 use Rattle.session.specs.declared.Finished.the-variants as finished
-use Rattle.events.specs.Promises.{lineRoom}
+use Rattle.printing.specs.Answers.{lineRoom, malformedRoom}
 use Rattle.lines.specs.Lines.{Expected}
 use Rattle.lines.specs.Promises.{expecting}
 use Rattle.session.specs.Replay as replay
@@ -62,7 +62,7 @@ pub record Feeds (s : Session) (piece before : List ℕ) (session : Session) (ta
 
 -- Our own choice: with fewer lent bytes `finish` writes nothing and says so
 abbrev pub finishRoom : ℕ
-finishRoom = 64
+finishRoom = malformedRoom
 
 abbrev pub finishedAs : List ℕ → List ℕ → Finished
 finishedAs text before = choose (leb finishRoom (length before)) (finished.Wrote (length text)) finished.NoRoom

@@ -3,21 +3,21 @@ ghost use mathlib.Core.Path.{_≡_};
 ghost use Prim.Native.Nat.{_≤_};
 ghost use lib.ListN.{take};
 ghost use Rattle.lines.specs.declared.Next.the-variants as next;
 ghost use Rattle.session.specs.Replay as replay;
 ghost use Prim.Native.Nat.{_+_};
 ghost use lib.ListN.{length};
-ghost use Rattle.events.specs.Event.{malformedText};
+ghost use Rattle.printing.specs.Texts.{malformedText};
 ghost use Rattle.events.specs.Promises.{eventOf};
+ghost use Rattle.printing.specs.Answers.{lineRoom};
 ghost use Rattle.lines.specs.Lines.{setsUp, brings};
 ghost use Rattle.lines.specs.Promises.{lineOf};
 ghost use Rattle.session.specs.Feeding.{fedTo, ended};
 ghost use Rattle.session.specs.Session.{expectedOf, BoundedRun};
 ghost use Rattle.session.specs.Closing.{Ready, Closing, Closes, ClosesLine, moved};
 use crate::MOST_LINES;
 use crate::Progress;
 use crate::Run;
 use events::Event;
-use events::printing;
 use lines::Awaited;
 use lines::Line;
 use lines::Next;
@@ -151,7 +151,7 @@ fn bring(run: Run, event: Event, number: u32, bytes: &[u8], out: &mut [u8], at: 
 
 // A run that ends with a malformed line.
 pub fn breaks(run: Run, out: &mut [u8], at: usize) -> Progress
-    requires { ⌜ (at + 256 ≤ length (now out)) × BoundedRun run ⌝ }
+    requires { ⌜ (at + lineRoom ≤ length (now out)) × BoundedRun run ⌝ }
     ensures { λ r. ⌜ Closes (fedTo ended (malformedText (run .number))) at (now (out .entry)) (r .run) (r .written) (now (out .exit)) ⌝ }
 {
     let number = run.number;

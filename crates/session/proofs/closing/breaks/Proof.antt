@@ -2,7 +2,7 @@
 use native.Mathlib.Omega.{arith}
 use mathlib.Core.Path.{refl}
 use borrow.Author.Needs.{needs}
-use Rattle.events.proofs.Texts.{length-malformed}
+use Rattle.printing.proofs.Texts.{length-malformed}
 use Rattle.session.proofs.closing.breaks.Statement.{statement}
 use Rattle.session.proofs.closing.breaks.Tie as tie
 

@@ -10,10 +10,10 @@ use Rattle.unit.specs.Outcome.{Completes}
 use Rattle.unit.specs.declared.Reply.{Reply}
 use Rattle.unit.specs.Refusals.{refusalNumber}
 use Rattle.tag.specs.Calls.{newUnit}
 use Rattle.session.specs.Feeding.{closed}
 use Rattle.session.proofs.ClosedLines.{closes-fed, begunBy, begins-by}
 use Rattle.notation.proofs.Placed.{puts-nothing}
-use Rattle.events.proofs.Texts.{length-refused}
+use Rattle.printing.proofs.Texts.{length-refused}
 use Rattle.session.proofs.closing.create.Statement.{statement}
 use Rattle.session.proofs.closing.create.Tie as tie
 

@@ -4,8 +4,8 @@ use mathlib.Core.Path.{sym}
 use lib.Seq.{length-take-le}
 use borrow.Author.Needs.{needs}
 use Rattle.notation.proofs.Placed.{puts-then}
-use Rattle.events.proofs.printing.success.Statement.{statement}
-use Rattle.events.proofs.printing.success.Tie as tie
+use Rattle.printing.proofs.success.Statement.{statement}
+use Rattle.printing.proofs.success.Tie as tie
 
 put-requires : tie.Need-put-requires
 put-requires c κs = search needs

@@ -4,10 +4,10 @@ ghost use Prim.Native.Nat.{_+_, _≤_};
 ghost use lib.ListN.{length, take};
 ghost use Rattle.sizes.specs.Sizes.{answerRoom};
 ghost use Rattle.unit.specs.Refusals.{refusalNumber};
-ghost use Rattle.events.specs.Event.{refusedText, malformedText};
+ghost use Rattle.printing.specs.Texts.{refusedText, malformedText};
 ghost use Rattle.notation.specs.Written.{PutsText};
-ghost use Rattle.events.specs.Event.{bytesText, notesText};
-ghost use Rattle.events.specs.Promises.{answeredText, completedText, elapsedText, passedText, repliesWithin};
+ghost use Rattle.printing.specs.Texts.{bytesText, notesText};
+ghost use Rattle.printing.specs.Answers.{lineRoom, malformedRoom, titleRoom, answeredText, completedText, elapsedText, passedText, repliesWithin};
 ghost use mathlib.Core.List.{_++_};
 use notation::text;
 use time::Passed;
@@ -24,7 +24,7 @@ pub struct Performed {
 }
 
 pub fn refused(out: &mut [u8], at: usize, refusal: Refusal) -> usize
-    requires { ⌜ at + 256 ≤ length (now out) ⌝ }
+    requires { ⌜ at + lineRoom ≤ length (now out) ⌝ }
     ensures { λ r. ⌜ PutsText (refusedText (refusalNumber refusal)) at (now (out .entry)) r (now (out .exit)) ⌝ }
 {
     let one = [end::refusal_number(refusal)];
@@ -32,7 +32,7 @@ pub fn refused(out: &mut [u8], at: usize, refusal: Refusal) -> usize
 }
 
 pub fn malformed(out: &mut [u8], at: usize, number: u32) -> usize
-    requires { ⌜ at + 64 ≤ length (now out) ⌝ }
+    requires { ⌜ at + malformedRoom ≤ length (now out) ⌝ }
     ensures { λ r. ⌜ PutsText (malformedText number) at (now (out .entry)) r (now (out .exit)) ⌝ }
 {
     text::decimal_line(out, at, b"answer=malformed\nline=", number)
@@ -51,7 +51,7 @@ fn bytes(out: &mut [u8], at: usize, answer: &[u8]) -> usize
 
 // A success: its title, and the answer bytes that were written.
 fn success(out: &mut [u8], at: usize, title: &[u8], answer: &[u8], count: usize) -> usize
-    requires { ⌜ (length (now title) ≤ 32) × ((length (now answer) ≡ answerRoom) × ((count ≤ answerRoom) × (at + 256 ≤ length (now out)))) ⌝ }
+    requires { ⌜ (length (now title) ≤ titleRoom) × ((length (now answer) ≡ answerRoom) × ((count ≤ answerRoom) × (at + lineRoom ≤ length (now out)))) ⌝ }
     ensures { λ r. ⌜ PutsText (now (title .entry) ++ bytesText (take count (now (answer .entry)))) at (now (out .entry)) r (now (out .exit)) ⌝ }
 {
     let next = text::put(out, at, title);
@@ -60,7 +60,7 @@ fn success(out: &mut [u8], at: usize, title: &[u8], answer: &[u8], count: usize)
 
 // The end of an event with answer bytes.
 pub fn answered(step: Step, title: &[u8], answer: &[u8], out: &mut [u8], at: usize) -> Performed
-    requires { ⌜ (length (now title) ≤ 32) × ((length (now answer) ≡ answerRoom) × ((repliesWithin (step .reply) answerRoom) × (at + 256 ≤ length (now out)))) ⌝ }
+    requires { ⌜ (length (now title) ≤ titleRoom) × ((length (now answer) ≡ answerRoom) × ((repliesWithin (step .reply) answerRoom) × (at + lineRoom ≤ length (now out)))) ⌝ }
     ensures { λ r. ⌜ (r .unit ≡ step .unit) × PutsText (answeredText (now (title .entry)) (step .reply) (now (answer .entry))) at (now (out .entry)) (r .written) (now (out .exit)) ⌝ }
 {
     let unit = step.unit;
@@ -79,7 +79,7 @@ pub fn answered(step: Step, title: &[u8], answer: &[u8], out: &mut [u8], at: usi
 
 // The end of an event without answer bytes.
 pub fn completed(step: Step, title: &[u8], out: &mut [u8], at: usize) -> Performed
-    requires { ⌜ (length (now title) ≤ 32) × (at + 256 ≤ length (now out)) ⌝ }
+    requires { ⌜ (length (now title) ≤ titleRoom) × (at + lineRoom ≤ length (now out)) ⌝ }
     ensures { λ r. ⌜ (r .unit ≡ step .unit) × PutsText (completedText (now (title .entry)) (step .reply)) at (now (out .entry)) (r .written) (now (out .exit)) ⌝ }
 {
     let unit = step.unit;
@@ -117,7 +117,7 @@ fn elapsed(
     answer: &[u8],
     count: usize,
 ) -> usize
-    requires { ⌜ (length (now answer) ≡ answerRoom) × ((count ≤ answerRoom) × (at + 256 ≤ length (now out))) ⌝ }
+    requires { ⌜ (length (now answer) ≡ answerRoom) × ((count ≤ answerRoom) × (at + lineRoom ≤ length (now out))) ⌝ }
     ensures { λ r. ⌜ PutsText (elapsedText tenth seconds (take count (now (answer .entry)))) at (now (out .entry)) r (now (out .exit)) ⌝ }
 {
     let next = text::put(out, at, b"answer=elapsed\n");
@@ -127,7 +127,7 @@ fn elapsed(
 
 // The end of time.
 pub fn passed(p: Passed, answer: &[u8], out: &mut [u8], at: usize) -> Performed
-    requires { ⌜ (length (now answer) ≡ answerRoom) × ((repliesWithin (p .reply) answerRoom) × (at + 256 ≤ length (now out))) ⌝ }
+    requires { ⌜ (length (now answer) ≡ answerRoom) × ((repliesWithin (p .reply) answerRoom) × (at + lineRoom ≤ length (now out))) ⌝ }
     ensures { λ r. ⌜ (r .unit ≡ p .unit) × PutsText (passedText (p .ended) (p .unit .clock .seconds) (p .reply) (now (answer .entry))) at (now (out .entry)) (r .written) (now (out .exit)) ⌝ }
 {
     let unit = p.unit;

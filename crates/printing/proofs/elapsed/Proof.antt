@@ -5,9 +5,9 @@ use lib.Seq.{length-take-le}
 use mathlib.Core.Path.{sym}
 use native.Mathlib.Omega.{arith}
 use Rattle.notation.proofs.Placed.{puts-then}
-use Rattle.events.proofs.Texts.{length-notes}
-use Rattle.events.proofs.printing.elapsed.Statement.{statement}
-use Rattle.events.proofs.printing.elapsed.Tie as tie
+use Rattle.printing.proofs.Texts.{length-notes}
+use Rattle.printing.proofs.elapsed.Statement.{statement}
+use Rattle.printing.proofs.elapsed.Tie as tie
 
 slice-aggregate-put : tie.Need-slice-aggregate-put
 slice-aggregate-put c = search needs

@@ -6,9 +6,9 @@ use native.Mathlib.Omega.{arith}
 use Rattle.notation.specs.Text.{decimal, newline}
 use Rattle.notation.proofs.Decimal.{length-decimal}
 use Rattle.notation.proofs.Placed.{puts-then}
-use Rattle.events.proofs.Texts.{notes-none, notes-some}
-use Rattle.events.proofs.printing.notes.Statement.{statement}
-use Rattle.events.proofs.printing.notes.Tie as tie
+use Rattle.printing.proofs.Texts.{notes-none, notes-some}
+use Rattle.printing.proofs.notes.Statement.{statement}
+use Rattle.printing.proofs.notes.Tie as tie
 
 slice-aggregate-put : tie.Need-slice-aggregate-put
 slice-aggregate-put c = search needs

@@ -2,8 +2,8 @@
 use borrow.Author.Needs.{needs}
 use mathlib.Core.Path.{refl}
 use native.Mathlib.Omega.{arith}
-use Rattle.events.proofs.printing.answered.Statement.{statement}
-use Rattle.events.proofs.printing.answered.Tie as tie
+use Rattle.printing.proofs.answered.Statement.{statement}
+use Rattle.printing.proofs.answered.Tie as tie
 
 enum-known-reply : tie.Need-enum-known-reply
 enum-known-reply c = search needs

@@ -1,8 +1,8 @@
 -- `events::printing::malformed` meets its contract: the number behind a text.
 use borrow.Author.Needs.{needs}
-use Rattle.events.specs.Event.{malformedText}
-use Rattle.events.proofs.printing.malformed.Statement.{statement}
-use Rattle.events.proofs.printing.malformed.Tie as tie
+use Rattle.printing.specs.Texts.{malformedText}
+use Rattle.printing.proofs.malformed.Statement.{statement}
+use Rattle.printing.proofs.malformed.Tie as tie
 
 slice-aggregate-decimal-line : tie.Need-slice-aggregate-decimal-line
 slice-aggregate-decimal-line c = search needs

@@ -6,7 +6,7 @@ use native.Mathlib.Omega.{arith}
 use lib.ListN.{length, length-append}
 use Rattle.sizes.specs.Sizes.{answerRoom}
 use Rattle.notation.specs.Text.{decimal, decimalIn, hex, ascii, newline}
-use Rattle.events.specs.Event.{malformedText, refusedText, bytesText, notesText, line}
+use Rattle.printing.specs.Texts.{malformedText, refusedText, bytesText, notesText, line}
 use Rattle.notation.proofs.Decimal.{length-decimal}
 use Rattle.notation.proofs.Hex.{length-hex}
 

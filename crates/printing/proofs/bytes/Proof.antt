@@ -2,9 +2,9 @@
 use borrow.Author.Needs.{needs}
 use native.Mathlib.Omega.{arith}
 use Rattle.notation.proofs.Placed.{puts-nothing}
-use Rattle.events.proofs.Texts.{bytes-none, bytes-some}
-use Rattle.events.proofs.printing.bytes.Statement.{statement}
-use Rattle.events.proofs.printing.bytes.Tie as tie
+use Rattle.printing.proofs.Texts.{bytes-none, bytes-some}
+use Rattle.printing.proofs.bytes.Statement.{statement}
+use Rattle.printing.proofs.bytes.Tie as tie
 
 returns : tie.Need-returns
 returns c = rw (← bytes-none (c .before .before .before .args .answer .now) (omega arith)) (puts-nothing (c .before .before .before .args .at) (c .before .before .before .args .out .now))

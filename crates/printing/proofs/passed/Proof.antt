@@ -2,8 +2,8 @@
 use borrow.Author.Needs.{needs}
 use mathlib.Core.Path.{refl}
 use native.Mathlib.Omega.{arith}
-use Rattle.events.proofs.printing.passed.Statement.{statement}
-use Rattle.events.proofs.printing.passed.Tie as tie
+use Rattle.printing.proofs.passed.Statement.{statement}
+use Rattle.printing.proofs.passed.Tie as tie
 
 enum-known-reply : tie.Need-enum-known-reply
 enum-known-reply c = search needs

@@ -1,8 +1,8 @@
 -- `events::printing::completed` meets its contract, a case of the reply each.
 use borrow.Author.Needs.{needs}
 use mathlib.Core.Path.{refl}
-use Rattle.events.proofs.printing.completed.Statement.{statement}
-use Rattle.events.proofs.printing.completed.Tie as tie
+use Rattle.printing.proofs.completed.Statement.{statement}
+use Rattle.printing.proofs.completed.Tie as tie
 
 enum-told : tie.Need-enum-told
 enum-told c = search needs

@@ -1,8 +1,8 @@
 -- `events::printing::refused` meets its contract: the refusal's number behind a text.
 use borrow.Author.Needs.{needs}
-use Rattle.events.specs.Event.{refusedText}
-use Rattle.events.proofs.printing.refused.Statement.{statement}
-use Rattle.events.proofs.printing.refused.Tie as tie
+use Rattle.printing.specs.Texts.{refusedText}
+use Rattle.printing.proofs.refused.Statement.{statement}
+use Rattle.printing.proofs.refused.Tie as tie
 
 refusal-number-requires : tie.Need-refusal-number-requires
 refusal-number-requires c κs = search needs
