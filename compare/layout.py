@@ -73,13 +73,13 @@ def main():
     found, end = places("unit", "unit", value("byteSize", everything), text, everything)
     assert end == wanted["TAG_RECORD_SIZE"]
     wanted.update(found, TAG_VERSION_AT=0)
-    exported = numbers(read("crates/firmware/specs/Exported.antt"))
+    exported = numbers(read("crates/exports/specs/Exported.antt"))
     wanted.update((header_name(n), value(n, exported)) for n in exported)
     parts = numbers(read("crates/desk/specs/Exported.antt"))
     wanted.update((header_name(n), value(n, {**sizes, **parts})) for n in parts)
-    wanted["TAG_WRONG_BYTE"] = int(re.search(r"^seenAs id \(seen\.WrongByte place\) = refused (\d+) place$", read("crates/frame/specs/Scanned.antt"), re.M)[1])
-    calls = read("crates/primitives/specs/Calls.antt")
-    wanted["TAG_LONGEST_MESSAGE"] = value("longestMessage", numbers(calls))
+    wanted["TAG_WRONG_BYTE"] = int(numbers(read("crates/frame_reader/specs/Reader.antt"))["wrongByte"])
+    calls = read("crates/primitive_calls/specs/Calls.antt")
+    wanted["TAG_LONGEST_MESSAGE"] = value("longestMessage", sizes)
     wanted["TAG_WRONG_SIZE"] = int(re.search(r"^endNumber Ending\.WrongSize = (\d+)$", calls, re.M)[1])
     for name, n in re.findall(r"^refusalNumber (\w+) = (0x[0-9a-fA-F]+|\d+)$", read("crates/unit/specs/Refusals.antt"), re.M):
         wanted[header_name(name)] = int(n, 0)

@@ -27,7 +27,7 @@ from tracing.sentences import CALLS, ROOT, fail, failures, runs, sentences, word
 OUTPUT = ROOT / "docs/TRACE.md"
 PUBLIC = {
     "tag": r"^pub fn (\w+)",
-    "primitives": r"^pub fn (\w+)\((?:[^{]*?)\) -> Ending",
+    "primitive_calls": r"^pub fn (\w+)\((?:[^{]*?)\) -> Ending",
     "replay": r"^pub fn (\w+)",
     "firmware": r'^pub extern "C" fn (\w+)',
 }

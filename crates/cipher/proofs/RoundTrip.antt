@@ -11,13 +11,14 @@ use Rattle.laws.proofs.Tabulate.{tabulate-getD}
 use Rattle.laws.proofs.Xor.{⊕-cancel}
 use Rattle.substitution.specs.Box.{SBox, InvSBox}
 use Rattle.cipher.specs.Aes.{AES128, InvAES128}
-use Rattle.rounds.specs.Rounds.{stateOf, SubBytes, ShiftRows, MixColumns, AddRoundKey, InvSubBytes, InvShiftRows, InvMixColumns, rounds, invRounds, Cipher, InvCipher}
+use Rattle.steps.specs.Steps.{stateOf, SubBytes, ShiftRows, MixColumns, AddRoundKey, InvSubBytes, InvShiftRows, InvMixColumns}
+use Rattle.rounds.specs.Rounds.{rounds, invRounds, Cipher, InvCipher}
 use Rattle.key_schedule.specs.Expansion.{KeyExpansion}
-use Rattle.rounds.proofs.State.{long-roundKey}
+use Rattle.steps.proofs.State.{long-roundKey}
 use Rattle.substitution.proofs.Maps.{map-agree}
 use Rattle.substitution.proofs.Bytes.{Bytes}
 use Rattle.substitution.proofs.Boxes.{InvSBox-SBox, SBox-InvSBox}
-use Rattle.rounds.proofs.Mixing.{InvMixColumns-MixColumns, MixColumns-InvMixColumns}
+use Rattle.steps.proofs.Mixing.{InvMixColumns-MixColumns, MixColumns-InvMixColumns}
 use Rattle.key_schedule.proofs.Expansion.{length-schedule, bytes-schedule}
 use Rattle.rounds.proofs.States.{State, state-inv-shift, state-mix, state-inv-mix, substituted, restored, state-substituted, state-restored, state-key, state-rounds}
 

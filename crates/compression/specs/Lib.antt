@@ -1,3 +1,3 @@
 pub mod Constants
 pub mod Compression
-pub mod Window
+pub mod Turns

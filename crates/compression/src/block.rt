@@ -1,17 +1,17 @@
 // The hash computation of FIPS 180-4, §6.2.2, on one block.
 use super::Working;
-use super::schedule::next_word;
-use super::word::big_sigma0;
-use super::word::big_sigma1;
-use super::word::ch;
-use super::word::maj;
+use message_schedule::schedule::next_word;
+use message_schedule::word::big_sigma0;
+use message_schedule::word::big_sigma1;
+use message_schedule::word::ch;
+use message_schedule::word::maj;
 use std::num::wrapping_add_u32;
 ghost use mathlib.Core.Path.{_≡_};
 ghost use Prim.Native.Nat.{ℕ, _+_, _*_, _≤_, _<_};
 ghost use lib.ListN.{length, getD, take, drop};
 ghost use Rattle.compression.specs.Constants as constants;
 ghost use Rattle.compression.specs.Compression as sha;
-ghost use Rattle.compression.specs.Window.{Taken};
+ghost use Rattle.compression.specs.Turns.{Taken};
 
 // §4.2.2: the constants, one to a turn. A table in use stands on the stack, so there are four of sixteen.
 const K_0: [u32; 16] = [

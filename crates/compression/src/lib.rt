@@ -1,9 +1,5 @@
 // The hash computation of SHA-256 (FIPS 180-4, §6.2.2) on one block.
 
-// The six functions on words of 32 bits.
-mod word;
-// The message schedule, in one buffer of sixteen words.
-mod schedule;
 // The 64 turns.
 mod block;
 

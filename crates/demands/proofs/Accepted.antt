@@ -18,7 +18,7 @@ use Rattle.laws.proofs.Same.{same-refl, differ-same}
 use Rattle.tables.specs.Rows.{among, firstThat}
 use Rattle.wire.specs.Signing.{requestTag, keyProof, derivedKey, recoveryKey, ringKey, protectionKey, answerTag, signed, ringNotice}
 use Rattle.wire.specs.Shape.{Request, sizeLegal, oneOf, legalSizes}
-use Rattle.wire.specs.KeyBlocks.{decryptedKey, encryptedKey}
+use Rattle.key_blocks.specs.KeyBlocks.{decryptedKey, encryptedKey}
 use Rattle.unit.specs.declared.TagUnit.{TagUnit}
 use Rattle.unit.specs.declared.Sound.{Sound}
 use Rattle.unit.specs.declared.Protection.{Protection}

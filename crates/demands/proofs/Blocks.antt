@@ -8,7 +8,7 @@ use lib.ListN.{length, take, drop, length-drop}
 use lib.Seq.{take-at, drop-at, take-all, take-add, length-take-le}
 use Rattle.primitives.specs.Standards.{AES128, InvAES128}
 use Rattle.primitives.proofs.Laws.{length-InvAES128, AES128-InvAES128}
-use Rattle.wire.specs.KeyBlocks.{decryptedKey, encryptedKey}
+use Rattle.key_blocks.specs.KeyBlocks.{decryptedKey, encryptedKey}
 use Rattle.demands.specs.History.{Bytes}
 use Rattle.demands.proofs.OfBytes.{bytes-take, bytes-drop}
 use Rattle.demands.proofs.KeyBytes.{Sixteen}

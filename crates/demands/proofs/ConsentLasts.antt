@@ -10,7 +10,7 @@ use borrow.Author.Tests.{leb-true, leb-false, lt-ltb}
 use Rattle.laws.proofs.Flags.{or-left, or-right}
 use Rattle.wire.specs.Signing.{derivedKey, requestTag, answerTag, signed, recoveryKey}
 use Rattle.wire.specs.Shape.{sizeLegal, oneOf, legalSizes}
-use Rattle.wire.specs.KeyBlocks.{encryptedKey}
+use Rattle.key_blocks.specs.KeyBlocks.{encryptedKey}
 use Rattle.unit.specs.declared.TagUnit.{TagUnit}
 use Rattle.unit.specs.declared.Sound.{Sound}
 use Rattle.unit.specs.WellFormed.{wellFormed}

@@ -1,7 +1,7 @@
 -- What the plain tag comes to depends on the course of a list alone. Tenths add up, so that the time between two calls counts as one, and a
 -- call bears on its lent bytes only through room or no room.
 use Prim.Native.Nat.{ℕ, zero, suc, _+_}
-use mathlib.Core.Path.{_≡_, refl, sym}
+use mathlib.Core.Path.{_≡_, refl, sym, ap, _∙_}
 use mathlib.Core.Bool.{Bool, true, false, cond}
 use mathlib.Core.List.{List, [], _∷_}
 use native.Mathlib.Omega.{arith}
@@ -51,6 +51,7 @@ wait t n room w = go (roomy room)
 pub follows : (t : ℕ) (l : List Act) (w : World) → runs waited l (tenthsOn t w) ≡ follow (courseAfter t l) w
 unfolding follow courseAfter runs ran
 follows t [] w = refl
-follows t (waits n room ∷ l) w = rw wait (follows (t + cond (roomy room) n 0) l w)
+follows t (waits n room ∷ l) w = ap (runs waited l) (wait t n room w) ∙ follows (t + cond (roomy room) n 0) l w
 follows t (calls c room ∷ l) w =
-    rw (called-bare c room (tenthsOn t w), ← follows 0 l (called c (bareRoom c room) (tenthsOn t w)), none-on)
+    let after = called c (bareRoom c room) (tenthsOn t w) in
+    ap (runs waited l) (called-bare c room (tenthsOn t w) ∙ sym (none-on after)) ∙ follows 0 l after

@@ -14,9 +14,9 @@ use Rattle.unit.specs.WellFormed.{wellFormed}
 use Rattle.unit.specs.Outcome.{Outcome, giving, refusing}
 use Rattle.unit.proofs.Lines.{lines}
 use Rattle.frame.specs.Frame.{rendered, flagsFor}
-use Rattle.frame.proofs.RoundTrip.{frame-reads}
-use Rattle.frame.proofs.ReadBack.{read-back}
-use Rattle.frame.proofs.WithR.{read-back-with-r}
+use Rattle.frame_laws.proofs.RoundTrip.{frame-reads}
+use Rattle.frame_laws.proofs.ReadBack.{read-back}
+use Rattle.frame_laws.proofs.WithR.{read-back-with-r}
 use Rattle.tag.specs.Own.{protected, showing}
 use Rattle.tag.specs.Calls.{frame, own, calls}
 use Rattle.demands.specs.History.{step}

@@ -16,7 +16,7 @@ use Rattle.laws.specs.Answer.{gives}
 use Rattle.laws.proofs.Flags.{and-left, and-right, or-cases, or-false}
 use Rattle.wire.specs.Signing.{recoveryKey, answerTag, signed}
 use Rattle.wire.specs.Shape.{Request, parsed, sizeLegal, legalSizes, oneOf, shapeLegal}
-use Rattle.wire.specs.KeyBlocks.{decryptedKey, encryptedKey}
+use Rattle.key_blocks.specs.KeyBlocks.{decryptedKey, encryptedKey}
 use Rattle.unit.specs.declared.TagUnit.{TagUnit}
 use Rattle.unit.specs.declared.Identity.{Identity}
 use Rattle.unit.specs.WellFormed.{wellFormed, ownerKey}

@@ -14,7 +14,7 @@ use Rattle.laws.proofs.Same.{differ-same, same-refl, same-sym}
 use Rattle.primitives.specs.Standards.{HMAC}
 use Rattle.primitives.proofs.Laws.{HMAC-byte}
 use Rattle.wire.specs.Signing.{requestTag}
-use Rattle.wire.specs.KeyBlocks.{decryptedKey}
+use Rattle.key_blocks.specs.KeyBlocks.{decryptedKey}
 use Rattle.unit.specs.declared.TagUnit.{TagUnit}
 use Rattle.unit.specs.declared.Settings.{Settings}
 use Rattle.unit.specs.declared.Owner.{Owner}

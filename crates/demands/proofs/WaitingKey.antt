@@ -12,7 +12,7 @@ use Rattle.unit.specs.declared.TagUnit.{TagUnit}
 use Rattle.unit.specs.declared.Identity.{Identity}
 use Rattle.unit.specs.WellFormed.{wellFormed}
 use Rattle.unit.specs.Change.{identityKey}
-use Rattle.wire.specs.KeyBlocks.{decryptedKey}
+use Rattle.key_blocks.specs.KeyBlocks.{decryptedKey}
 use Rattle.tag.specs.Calls.{disconnect, Act, calls}
 use Rattle.demands.specs.Spelled.{OwnedWith, AllBut, waiting}
 use Rattle.demands.specs.History.{step, after, writes}

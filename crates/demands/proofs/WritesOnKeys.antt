@@ -11,7 +11,7 @@ use borrow.Author.Tests.{eqb-true}
 use Rattle.laws.specs.Answer.{gives}
 use Rattle.wire.specs.Shape.{Request, parsed, shapeLegal}
 use Rattle.wire.specs.Signing.{recoveryKey, ringKey, protectionKey}
-use Rattle.wire.specs.KeyBlocks.{decryptedKey, encryptedKey}
+use Rattle.key_blocks.specs.KeyBlocks.{decryptedKey, encryptedKey}
 use Rattle.unit.specs.declared.TagUnit.{TagUnit}
 use Rattle.unit.specs.declared.Accounts.{Accounts}
 use Rattle.unit.specs.declared.Owner.{Owner}

@@ -9,8 +9,8 @@ use Rattle.laws.specs.Answer.{gives}
 use Rattle.unit.specs.declared.TagUnit.{TagUnit}
 use Rattle.unit.specs.declared.Protection.{Protection}
 use Rattle.frame.specs.declared.Flags.{Flags}
-use Rattle.frame.specs.Reader.{Parts, reads, readFrame, readFrameWithR}
-use Rattle.frame.specs.ReadBack.{ReadBack, ReadBackWithR}
+use Rattle.frame_reader.specs.Reader.{Parts, reads, readFrame, readFrameWithR}
+use Rattle.frame_laws.specs.ReadBack.{ReadBack, ReadBackWithR}
 use Rattle.tag.specs.Calls.{frame, calls}
 use Rattle.demands.specs.History.{step}
 

@@ -9,7 +9,7 @@ use borrow.Author.Tests.{lt-ltb, le-ltb}
 use Rattle.laws.specs.Answer.{lentAfter, Wrote}
 use Rattle.laws.proofs.Answered.{wrote}
 use Rattle.laws.proofs.Copied.{copied-next}
-use Rattle.frame.specs.Reader.{Reading, reads, refused}
+use Rattle.frame_reader.specs.Reader.{Reading, reads, refused}
 use Rattle.desk.specs.Exported.{written, roomy, readingCode, readingResult, ExportsReading}
 
 -- the identifier, and three bytes right behind it

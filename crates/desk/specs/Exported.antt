@@ -8,7 +8,7 @@ use lib.ListN.{length}
 use Rattle.laws.specs.Answer.{Result, gives, refuses, lentAfter}
 use Rattle.sizes.specs.Sizes.{identifierSize}
 use Rattle.frame.specs.declared.Flags.{Flags}
-use Rattle.frame.specs.Reader.{Parts, Opened, Reading, reads, refused, readFrame, readFrameWithR}
+use Rattle.frame_reader.specs.Reader.{Parts, Opened, Reading, reads, refused, wrongByte, readFrame, readFrameWithR}
 
 -- "it gives identifier, protection bit and flags byte if present": the identifier, protection as 0 or 1, whether there is a flags byte, as 0 or
 -- 1, and that byte, or 0; with r the battery level behind them
@@ -54,8 +54,11 @@ module _ {A : Type 0} where
   written bytes (reads a) = reads (bytes a)
   written bytes (refused number place) = refused number place
 
+abbrev pub noRoom : ℕ
+noRoom = 6
+
 unfoldable pub roomy : ℕ → ℕ → Reading (List ℕ) → Reading (List ℕ)
-roomy size room reading = cond (ltb room size) (refused 6 0) reading
+roomy size room reading = cond (ltb room size) (refused noRoom 0) reading
 
 abbrev pub partsRead : List ℕ → ℕ → Reading (List ℕ)
 partsRead text room = roomy partsSize room (written partBytes (readFrame identifierSize text))
@@ -69,7 +72,7 @@ readingCode (reads bytes) = length bytes
 readingCode (refused number place) = 256 + number + place * 2 ^ 16
 
 abbrev pub wrongByteCode : ℕ → ℕ
-wrongByteCode place = readingCode (refused 8 place)
+wrongByteCode place = readingCode (refused wrongByte place)
 
 abbrev pub readingResult : Reading (List ℕ) → Result
 readingResult (reads bytes) = gives bytes

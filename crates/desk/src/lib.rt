@@ -4,16 +4,19 @@ ghost use mathlib.Core.Path.{_≡_};
 ghost use Prim.Native.Nat.{_+_, _*_, _≤_};
 ghost use lib.ListN.{length};
 ghost use Rattle.laws.specs.Answer.{Wrote};
-ghost use Rattle.desk.specs.Exported.{partBytes, flagsShown, flagsByte, partsRead, partsReadWithR, ExportsReading, wrongByteCode};
+ghost use Rattle.sizes.specs.Sizes.{longestFrame};
+ghost use Rattle.desk.specs.Exported.{partsSize, partBytes, flagsShown, flagsByte, partsRead, partsReadWithR, ExportsReading, wrongByteCode};
 use frame::Flags;
-use frame::reader;
-use frame::reader::Seen;
-use frame::reader::SeenWithR;
+use frame_reader::Seen;
+use frame_reader::SeenWithR;
 use sizes::IDENTIFIER_SIZE;
 
 const REFUSAL_BASE: u64 = 256;
 
 const PLACE_BASE: u64 = 65536;
+
+// The number of the refusal of too few lent bytes.
+const NO_ROOM: u64 = 6;
 
 // Identifier, protection, whether there is a flags byte, that byte; and with r the battery level.
 const PARTS_SIZE: usize = IDENTIFIER_SIZE + 3;
@@ -22,10 +25,10 @@ const OPENED_SIZE: usize = PARTS_SIZE + 1;
 
 // Refusal 8 at a place.
 fn wrong_byte(at: usize) -> u64
-    requires { ⌜ at ≤ 29 ⌝ }
+    requires { ⌜ at ≤ longestFrame ⌝ }
     ensures { λ code. ⌜ code ≡ wrongByteCode at ⌝ }
 {
-    REFUSAL_BASE + 8 + at as u64 * PLACE_BASE
+    REFUSAL_BASE + frame_reader::WRONG_BYTE + at as u64 * PLACE_BASE
 }
 
 fn flags_shown(flags: Flags) -> u8
@@ -48,10 +51,10 @@ fn flags_byte(flags: Flags) -> u8
 
 // Writes what a frame says.
 fn put_parts(parts: &mut [u8], id: [u8; IDENTIFIER_SIZE], on: bool, flags: Flags)
-    requires { ⌜ 23 ≤ length (now parts) ⌝ }
-    ensures { λ _. ⌜ Wrote (partBytes (record { identifier = id; protected = on; flags = flags })) 23 (now (parts .entry)) (now (parts .exit)) ⌝ }
+    requires { ⌜ partsSize ≤ length (now parts) ⌝ }
+    ensures { λ _. ⌜ Wrote (partBytes (record { identifier = id; protected = on; flags = flags })) partsSize (now (parts .entry)) (now (parts .exit)) ⌝ }
 {
-    let rest = [reader::bit(on), flags_shown(flags), flags_byte(flags)];
+    let rest = [frame_reader::bit(on), flags_shown(flags), flags_byte(flags)];
     octets::put(parts, 0, &id);
     octets::put(parts, IDENTIFIER_SIZE, &rest);
 }
@@ -61,9 +64,9 @@ pub fn read(text: &[u8], parts: &mut [u8]) -> u64
     ensures { λ code. ⌜ ExportsReading (partsRead (now (text .entry)) (length (now (parts .entry)))) code (now (parts .entry)) (now (parts .exit)) ⌝ }
 {
     if parts.len() < PARTS_SIZE {
-        return REFUSAL_BASE + 6;
+        return REFUSAL_BASE + NO_ROOM;
     }
-    let scanned = reader::read(text);
+    let scanned = frame_reader::read(text);
     let id = scanned.id;
     let seen = scanned.seen;
     match seen {
@@ -80,14 +83,14 @@ pub fn read_with_r(text: &[u8], r: &[u8], parts: &mut [u8]) -> u64
     ensures { λ code. ⌜ ExportsReading (partsReadWithR (now (r .entry)) (now (text .entry)) (length (now (parts .entry)))) code (now (parts .entry)) (now (parts .exit)) ⌝ }
 {
     if parts.len() < OPENED_SIZE {
-        return REFUSAL_BASE + 6;
+        return REFUSAL_BASE + NO_ROOM;
     }
-    let scanned = reader::read_with_r(text, r);
+    let scanned = frame_reader::read_with_r(text, r);
     let id = scanned.id;
     let seen = scanned.seen;
     match seen {
         SeenWithR::WrongByte(at) => wrong_byte(at),
-        SeenWithR::WrongSize => REFUSAL_BASE + 1,
+        SeenWithR::WrongSize => REFUSAL_BASE + frame_reader::WRONG_SIZE,
         SeenWithR::Frame { on, flags, battery } => {
             put_parts(parts, id, on, flags);
             parts[PARTS_SIZE] = battery;

@@ -1,6 +1,6 @@
 // Numbers from bytes and to bytes, the most significant byte first, and the bits of a number.
-use limbs::modular::reduce_once;
 use limbs::plain::twice;
+use modular::reduce_once;
 ghost use mathlib.Core.Path.{_≡_};
 ghost use Prim.Native.Nat.{_+_, _*_, _/_, _%_, _^_};
 ghost use lib.ListN.{length, getD};

@@ -6,7 +6,7 @@ use mathlib.Core.List.{List, []}
 use lib.Dec.{eqb, leb, ltb}
 use lib.ListN.{length}
 use native.Mathlib.Omega.{arith}
-use Rattle.laws.specs.Answer.{gives, refuses}
+use Rattle.laws.specs.Answer.{gives}
 use Rattle.sizes.specs.Sizes.{accountKeySize, identifierSize, mostKeys, highestBattery}
 use Rattle.tables.specs.Rows.{among}
 use Rattle.unit.specs.WellFormed.{wellFormed, heldKeys}

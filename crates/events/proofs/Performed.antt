@@ -13,12 +13,14 @@ use Rattle.unit.specs.declared.Reply.{Reply}
 use Rattle.unit.specs.declared.Reply.the-variants.{Done, Refused}
 use Rattle.sizes.specs.Sizes.{answerRoom}
 use Rattle.time.specs.Passing.{Passes}
-use Rattle.events.specs.Event.{Event, performed, printed, successText, bytesText, refusedText, notesText, elapsed}
+use Rattle.events.specs.Event.{Event, performed, printed, successText, elapsed}
+use Rattle.printing.specs.Texts.{bytesText, refusedText, notesText}
 use Rattle.notation.specs.Text.{ascii, decimal, newline}
 use Rattle.notation.specs.Written.{PutsText}
-use Rattle.events.specs.Promises.{lineRoom, Performs, answeredText, completedText, passedText, repliesWithin}
+use Rattle.printing.specs.Answers.{lineRoom, answeredText, completedText, passedText, repliesWithin}
+use Rattle.events.specs.Promises.{Performs}
 use Rattle.events.proofs.NoAnswerBytes.{Quiet}
-use Rattle.events.proofs.Texts.{length-bytes, length-refused, length-notes}
+use Rattle.printing.proofs.Texts.{length-bytes, length-refused, length-notes}
 use Rattle.notation.proofs.Decimal.{length-decimal}
 
 -- an answer stands at the front of the lent bytes

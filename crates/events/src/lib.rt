@@ -2,12 +2,11 @@
 ghost use Prim.Native.Nat.{_+_, _≤_};
 ghost use lib.ListN.{length};
 ghost use Rattle.events.specs.Event as event;
-ghost use Rattle.events.specs.Promises.{lineRoom, askOf, settingOf, eventOf, Performs};
-use crate::printing::Performed;
+ghost use Rattle.printing.specs.Answers.{lineRoom};
+ghost use Rattle.events.specs.Promises.{askOf, settingOf, eventOf, Performs};
+use printing::Performed;
 use sizes::ANSWER_ROOM;
 use unit::TagUnit;
-
-pub mod printing;
 
 // An event that the tag answers with bytes.
 pub enum Ask {

@@ -1,8 +1,8 @@
 // Sum, difference and product of two forms, and whether a form holds 0.
-use limbs::modular::add_mod;
-use limbs::modular::subtract_mod;
-use limbs::montgomery::montgomery;
 use limbs::plain::less;
+use modular::add_mod;
+use modular::subtract_mod;
+use montgomery::montgomery;
 ghost use mathlib.Core.Path.{_≡_};
 ghost use lib.Dec.{eqb};
 ghost use Rattle.curve_laws.specs.Modulo.{plus, times, minus};

@@ -14,8 +14,8 @@ use Rattle.laws.specs.Answer.{Result, gives, refuses, lentAfter}
 use Rattle.laws.proofs.Flags.{true-or-false, clash}
 use Rattle.sizes.specs.Sizes.{answerRoom, accountKeySize, identifierSize, mostKeys, highestBattery}
 use Rattle.tables.specs.Rows.{among}
-use Rattle.primitives.specs.declared.Ending.{Ending}
-use Rattle.primitives.specs.Calls.{orRefusal, endNumber, numberOf, Ends as Digests}
+use Rattle.primitive_calls.specs.declared.Ending.{Ending}
+use Rattle.primitive_calls.specs.Calls.{orRefusal, endNumber, numberOf, Ends as Digests}
 use Rattle.unit.specs.declared.TagUnit.{TagUnit}
 use Rattle.unit.specs.declared.Sound.{Sound}
 use Rattle.unit.specs.declared.Reply.{Reply}
@@ -36,7 +36,7 @@ use Rattle.tag.specs.Own.{issuing, pressed, charged, keeping, disconnected, len
 use Rattle.tag.specs.Calls.{newUnit, Call, read, write, button, pairing, battery, accountKey, disconnect, identifier, frame, own, lends, guarded, call, elapsed}
 use Rattle.stored.specs.Record.{decoded, encoded, recordSize}
 use Rattle.stored.proofs.RoundTrip.{other-length, noUnit-malformed}
-use Rattle.firmware.specs.Exported.{endedBase, code, resultCode, recordAfter, bytesAfter, endCode, writesBack, Exports, ExportsAnswer, ExportsDigest, Finishes, digestCode}
+use Rattle.exports.specs.Exported.{endedBase, code, resultCode, recordAfter, bytesAfter, endCode, writesBack, Exports, ExportsAnswer, ExportsDigest, Finishes, digestCode}
 
 -- bytes that mean a well-formed unit are a whole record
 well-formed-length : (b : List ℕ) → wellFormed (decoded b) ≡ true → length b ≡ recordSize

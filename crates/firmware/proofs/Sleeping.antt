@@ -7,7 +7,7 @@ use Rattle.unit.specs.declared.Refusal.{Refusal}
 use Rattle.unit.specs.Refusals.{refusalNumber}
 use Rattle.sleep.specs.declared.Sleep.{Sleep}
 use Rattle.sleep.specs.Sleep.{Sleeps}
-use Rattle.firmware.specs.Exported.{refusalBase, endedBase, ExportsSleep}
+use Rattle.exports.specs.Exported.{refusalBase, endedBase, ExportsSleep}
 
 module _ {u : TagUnit} {s : Sleep} (p : Sleeps u s) where
   pub exports-until : {n : ℕ} → s ≡ Sleep.Until n → (result : ℕ) → result ≡ n * endedBase → ExportsSleep u result

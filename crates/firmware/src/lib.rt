@@ -4,12 +4,12 @@
 ghost use mathlib.Core.Bool.{not};
 ghost use lib.Dec.{eqb};
 ghost use lib.ListN.{length};
-ghost use Rattle.primitives.specs.Calls.{hashed, authenticated, encrypted, decrypted};
+ghost use Rattle.primitive_calls.specs.Calls.{hashed, authenticated, encrypted, decrypted};
 ghost use Rattle.desk.specs.Exported.{partsRead, partsReadWithR, ExportsReading};
 ghost use Rattle.tag.specs.Calls.{newUnit, call, elapsed as elapsedOf};
 ghost use Rattle.tag.specs.Calls as of;
 ghost use Rattle.stored.specs.Record.{decoded};
-ghost use Rattle.firmware.specs.Exported.{Exports, ExportsAnswer, ExportsSleep, ExportsDigest, newIn};
+ghost use Rattle.exports.specs.Exported.{Exports, ExportsAnswer, ExportsSleep, ExportsDigest, newIn};
 use sizes::BLOCK_SIZE;
 use sizes::DIGEST_SIZE;
 use sleep::Sleep;
@@ -21,15 +21,13 @@ use unit::change;
 // 65,536 times the tenth at which a ring ended stands in the number of elapsed time.
 const ENDED_BASE: u64 = 65536;
 
-mod finish;
-
 // A new unit in the record. Refusals: 2 for a record of another length, then 1 for settings out of range; the bytes then stay.
 #[no_mangle]
 pub extern "C" fn tag_new(bytes: &mut [u8], power: i32, components: u32, selectable: u32) -> u64
     ensures { λ code. ⌜ Exports (newIn (now (bytes .entry)) (newUnit power components selectable)) code (now (bytes .entry)) (now (bytes .exit)) ⌝ }
 {
     if bytes.len() != RECORD_SIZE {
-        return finish::finish(
+        return exports::finish(
             bytes,
             change::no_unit(),
             Reply::Refused(Refusal::NotWellFormed),
@@ -38,7 +36,7 @@ pub extern "C" fn tag_new(bytes: &mut [u8], power: i32, components: u32, selecta
     let step = tag::new_unit(power, components, selectable);
     let after = step.unit;
     let reply = step.reply;
-    finish::finish(bytes, after, reply)
+    exports::finish(bytes, after, reply)
 }
 
 // Read: issues the lent nonce. Refusals: 6, 2, 3.
@@ -50,7 +48,7 @@ pub extern "C" fn tag_read(bytes: &mut [u8], nonce: &[u8], answer: &mut [u8]) ->
     let step = tag::read(unit, nonce, answer);
     let after = step.unit;
     let reply = step.reply;
-    finish::finish(bytes, after, reply)
+    exports::finish(bytes, after, reply)
 }
 
 // Write: a request of the phone's. Refusals: 6, 2, and then, with the nonce spent, 0x81, 0x80, 0x81, 0x82.
@@ -62,7 +60,7 @@ pub extern "C" fn tag_write(bytes: &mut [u8], request: &[u8], answer: &mut [u8])
     let step = tag::write(unit, request, answer);
     let after = step.unit;
     let reply = step.reply;
-    finish::finish(bytes, after, reply)
+    exports::finish(bytes, after, reply)
 }
 
 // Button. Refusals: 6, 2.
@@ -74,7 +72,7 @@ pub extern "C" fn tag_button(bytes: &mut [u8], answer: &mut [u8]) -> u64
     let step = tag::button(unit, answer);
     let after = step.unit;
     let reply = step.reply;
-    finish::finish(bytes, after, reply)
+    exports::finish(bytes, after, reply)
 }
 
 // Time: any number of tenths. Refusals: 6, 2.
@@ -86,7 +84,7 @@ pub extern "C" fn tag_elapsed(bytes: &mut [u8], tenths: u32, answer: &mut [u8]) 
     let passed = tag::elapsed(unit, tenths, answer);
     let after = passed.unit;
     let reply = passed.reply;
-    let code = finish::finish(bytes, after, reply);
+    let code = exports::finish(bytes, after, reply);
     code + passed.ended as u64 * ENDED_BASE
 }
 
@@ -99,7 +97,7 @@ pub extern "C" fn tag_sleep(bytes: &[u8]) -> u64
     let sleep = tag::sleep_until(unit);
     match sleep {
         Sleep::Until(tenths) => tenths as u64 * ENDED_BASE,
-        Sleep::Refused(refusal) => finish::refusal_code(refusal),
+        Sleep::Refused(refusal) => exports::refusal_code(refusal),
     }
 }
 
@@ -112,7 +110,7 @@ pub extern "C" fn tag_pairing(bytes: &mut [u8], on: u32) -> u64
     let step = tag::pairing(unit, on != 0);
     let after = step.unit;
     let reply = step.reply;
-    finish::finish(bytes, after, reply)
+    exports::finish(bytes, after, reply)
 }
 
 // The battery level. Refusals: 2, 1.
@@ -124,7 +122,7 @@ pub extern "C" fn tag_battery(bytes: &mut [u8], level: u32) -> u64
     let step = tag::battery(unit, level);
     let after = step.unit;
     let reply = step.reply;
-    finish::finish(bytes, after, reply)
+    exports::finish(bytes, after, reply)
 }
 
 // Adds an account key. Refusals: 2, 4.
@@ -136,7 +134,7 @@ pub extern "C" fn tag_account_key(bytes: &mut [u8], key: &[u8]) -> u64
     let step = tag::account_key(unit, key);
     let after = step.unit;
     let reply = step.reply;
-    finish::finish(bytes, after, reply)
+    exports::finish(bytes, after, reply)
 }
 
 // The phone has hung up: brings a waiting identity key into force. Refusal: 2.
@@ -148,7 +146,7 @@ pub extern "C" fn tag_disconnect(bytes: &mut [u8]) -> u64
     let step = tag::disconnect(unit);
     let after = step.unit;
     let reply = step.reply;
-    finish::finish(bytes, after, reply)
+    exports::finish(bytes, after, reply)
 }
 
 // Lends the identifier for the current window. Refusals: 2, 1, 5.
@@ -160,7 +158,7 @@ pub extern "C" fn tag_lend_identifier(bytes: &mut [u8], r: &[u8], id: &[u8]) -> 
     let step = tag::lend_identifier(unit, r, id);
     let after = step.unit;
     let reply = step.reply;
-    finish::finish(bytes, after, reply)
+    exports::finish(bytes, after, reply)
 }
 
 // The advertised frame. Refusals: 6, 2, 5.
@@ -172,7 +170,7 @@ pub extern "C" fn tag_frame(bytes: &mut [u8], answer: &mut [u8]) -> u64
     let step = tag::advertise(unit, answer);
     let after = step.unit;
     let reply = step.reply;
-    finish::finish(bytes, after, reply)
+    exports::finish(bytes, after, reply)
 }
 
 // Reads a frame, of this tag or another: its identifier, protection, flags byte, in 23 bytes. Refusals: 6 for fewer, 8.
@@ -196,8 +194,8 @@ pub extern "C" fn tag_frame_read_with_r(frame: &[u8], r: &[u8], parts: &mut [u8]
 pub extern "C" fn tag_sha256(message: &[u8], answer: &mut [u8]) -> u64
     ensures { λ code. ⌜ ExportsDigest (hashed (now (message .entry)) (length (now (answer .entry)))) code (now (answer .entry)) (now (answer .exit)) ⌝ }
 {
-    let end = primitives::sha256(message, answer);
-    finish::digest_code(end, DIGEST_SIZE as u64)
+    let end = primitive_calls::sha256(message, answer);
+    exports::digest_code(end, DIGEST_SIZE as u64)
 }
 
 // HMAC-SHA-256 under a key of up to 65,535 bytes of a message of as many, into 32 bytes. Refusal: 7.
@@ -205,8 +203,8 @@ pub extern "C" fn tag_sha256(message: &[u8], answer: &mut [u8]) -> u64
 pub extern "C" fn tag_hmac_sha256(key: &[u8], message: &[u8], answer: &mut [u8]) -> u64
     ensures { λ code. ⌜ ExportsDigest (authenticated (now (key .entry)) (now (message .entry)) (length (now (answer .entry)))) code (now (answer .entry)) (now (answer .exit)) ⌝ }
 {
-    let end = primitives::hmac_sha256(key, message, answer);
-    finish::digest_code(end, DIGEST_SIZE as u64)
+    let end = primitive_calls::hmac_sha256(key, message, answer);
+    exports::digest_code(end, DIGEST_SIZE as u64)
 }
 
 // AES-128 of a block of 16 bytes under a key of 16 bytes, into 16 bytes. Refusal: 7.
@@ -214,8 +212,8 @@ pub extern "C" fn tag_hmac_sha256(key: &[u8], message: &[u8], answer: &mut [u8])
 pub extern "C" fn tag_aes128_encrypt(key: &[u8], block: &[u8], answer: &mut [u8]) -> u64
     ensures { λ code. ⌜ ExportsDigest (encrypted (now (key .entry)) (now (block .entry)) (length (now (answer .entry)))) code (now (answer .entry)) (now (answer .exit)) ⌝ }
 {
-    let end = primitives::aes128_encrypt(key, block, answer);
-    finish::digest_code(end, BLOCK_SIZE as u64)
+    let end = primitive_calls::aes128_encrypt(key, block, answer);
+    exports::digest_code(end, BLOCK_SIZE as u64)
 }
 
 // Its inverse, with the same sizes. Refusal: 7.
@@ -223,6 +221,6 @@ pub extern "C" fn tag_aes128_encrypt(key: &[u8], block: &[u8], answer: &mut [u8]
 pub extern "C" fn tag_aes128_decrypt(key: &[u8], block: &[u8], answer: &mut [u8]) -> u64
     ensures { λ code. ⌜ ExportsDigest (decrypted (now (key .entry)) (now (block .entry)) (length (now (answer .entry)))) code (now (answer .entry)) (now (answer .exit)) ⌝ }
 {
-    let end = primitives::aes128_decrypt(key, block, answer);
-    finish::digest_code(end, BLOCK_SIZE as u64)
+    let end = primitive_calls::aes128_decrypt(key, block, answer);
+    exports::digest_code(end, BLOCK_SIZE as u64)
 }

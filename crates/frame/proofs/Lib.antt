@@ -1,13 +1,1 @@
 pub mod Rendered
-pub mod Common
-pub mod Claims
-pub mod Head
-pub mod Whole
-pub mod Scanning
-pub mod FirstWrong
-pub mod RoundTrip
-pub mod Place
-pub mod ReadBack
-pub mod Flagged
-pub mod WithR
-pub mod Bounds

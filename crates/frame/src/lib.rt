@@ -7,15 +7,14 @@ ghost use lib.Bits.{bitXor};
 ghost use Rattle.laws.specs.Answer.{Wrote};
 ghost use Rattle.sizes.specs.Sizes.{highestBattery, identifierSize, answerRoom};
 ghost use Rattle.frame.specs.Frame.{lengthByte, rendered, flagsBeforeXor, flagsMask, flagsFor};
+use sizes::DIGEST_SIZE;
+use sizes::FRAME_FLAGS_AT;
+use sizes::FRAME_IDENTIFIER_AT;
 use sizes::IDENTIFIER_SIZE;
+use sizes::LONGEST_FRAME;
 
-pub mod reader;
-
-const HEAD_SIZE: usize = 8;
-
-const FLAGS_AT: usize = HEAD_SIZE + IDENTIFIER_SIZE;
-
-const FLAGGED_SIZE: usize = FLAGS_AT + 1;
+// The last byte of SHA-256 of r, which hides the flags byte.
+pub const MASK_AT: usize = DIGEST_SIZE - 1;
 
 // The hashed flags byte of a frame, where there is one.
 pub enum Flags {
@@ -40,7 +39,7 @@ fn hidden_flags(battery: u8, on: bool, r: [u8; IDENTIFIER_SIZE]) -> u8
 {
     let plain = plain_flags(battery, on);
     let d = primitives::hash_pair(&r, b"");
-    plain ^ d[31]
+    plain ^ d[MASK_AT]
 }
 
 // The flags byte, left out where battery and protection are both 0.
@@ -82,13 +81,13 @@ pub fn render(id: [u8; IDENTIFIER_SIZE], on: bool, flags: Flags, answer: &mut [u
     let kind = kind_byte(on);
     let head = [0x02, 0x01, 0x06, size, 0x16, 0xAA, 0xFE, kind];
     octets::put(answer, 0, &head);
-    octets::put(answer, HEAD_SIZE, &id);
+    octets::put(answer, FRAME_IDENTIFIER_AT, &id);
     match flags {
-        Flags::LeftOut => FLAGS_AT,
+        Flags::LeftOut => FRAME_FLAGS_AT,
         Flags::Shown(byte) => {
             let last = [byte];
-            octets::put(answer, FLAGS_AT, &last);
-            FLAGGED_SIZE
+            octets::put(answer, FRAME_FLAGS_AT, &last);
+            LONGEST_FRAME
         }
     }
 }

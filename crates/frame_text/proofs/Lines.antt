@@ -11,7 +11,7 @@ use lib.ListN.{length, take, set}
 use lib.Seq.{length-take-le, take-suc-set}
 use borrow.Author.Tests.{le-leb, lt-leb, lt-ltb, le-ltb, ne-eqb, leb-true}
 use Rattle.notation.specs.Reading.{bytes}
-use Rattle.frame.specs.Reader.{readFrame}
+use Rattle.frame_reader.specs.Reader.{readFrame}
 use Rattle.frame_text.specs.Answers.{malformedText, readingText, lineText}
 use Rattle.frame_text.specs.Taking.{soFar, longer, closed, ends}
 use Rattle.frame_text.specs.declared.Line.{Line}

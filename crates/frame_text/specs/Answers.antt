@@ -10,7 +10,7 @@ use Rattle.sizes.specs.Sizes.{identifierSize}
 use Rattle.notation.specs.Text.{ascii, newline, hex, decimal}
 use Rattle.notation.specs.Reading.{bytes}
 use Rattle.frame.specs.declared.Flags.{Flags}
-use Rattle.frame.specs.Reader.{Parts, Reading, reads, refused, readFrame}
+use Rattle.frame_reader.specs.Reader.{Parts, Reading, reads, refused, readFrame}
 
 abbrev pub longestLine : ℕ
 longestLine = 256

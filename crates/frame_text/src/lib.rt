@@ -4,14 +4,13 @@ ghost use mathlib.Core.List.{[]};
 ghost use mathlib.Core.Option.{some};
 ghost use Prim.Native.Nat.{_+_, _≤_};
 ghost use lib.ListN.{length};
-ghost use Rattle.sizes.specs.Sizes.{identifierSize};
+ghost use Rattle.sizes.specs.Sizes.{identifierSize, longestFrame};
 ghost use Rattle.notation.specs.Written.{PutsText};
-ghost use Rattle.frame.specs.Reader.{readFrame};
+ghost use Rattle.frame_reader.specs.Reader.{wrongByte, readFrame};
 ghost use Rattle.frame_text.specs.Answers.{longestLine, malformedText, protectionText, flagsText, partsText, refusalText, readingText, lineText};
 ghost use Rattle.frame_text.specs.Taking.{soFar, longer as longerBy, closed as closedAs, ends, Says, Takes};
 use frame::Flags;
-use frame::reader;
-use frame::reader::Seen;
+use frame_reader::Seen;
 use notation::reading;
 use notation::reading::Octets;
 use notation::text;
@@ -21,15 +20,20 @@ const NEWLINE: u8 = 10;
 
 const LONGEST_LINE: usize = 256;
 
-// A line so far: its first `count` bytes. One that is too long already has a count above 256.
+// As many bytes as a line in hexadecimal can hold, and room for any answer.
+const MOST_BYTES: usize = LONGEST_LINE / 2;
+
+const TEXT_ROOM: usize = 96;
+
+// A line so far: its first `count` bytes. One that is too long already has a count above that.
 pub struct Line {
-    pub bytes: [u8; 256],
+    pub bytes: [u8; LONGEST_LINE],
     pub count: usize,
 }
 
 // A text: the first `count` bytes; the others are zero.
 pub struct Text {
-    pub bytes: [u8; 96],
+    pub bytes: [u8; TEXT_ROOM],
     pub count: usize,
 }
 
@@ -44,7 +48,7 @@ pub fn begin() -> Line
     ensures { λ r. ⌜ soFar r ≡ some [] ⌝ }
 {
     Line {
-        bytes: [0; 256],
+        bytes: [0; LONGEST_LINE],
         count: 0,
     }
 }
@@ -102,7 +106,7 @@ fn nothing() -> Text
     ensures { λ r. ⌜ Says [] r ⌝ }
 {
     Text {
-        bytes: [0; 96],
+        bytes: [0; TEXT_ROOM],
         count: 0,
     }
 }
@@ -110,7 +114,7 @@ fn nothing() -> Text
 fn malformed() -> Text
     ensures { λ r. ⌜ Says malformedText r ⌝ }
 {
-    let mut bytes = [0u8; 96];
+    let mut bytes = [0u8; TEXT_ROOM];
     let count = text::put(&mut bytes, 0, b"malformed\n");
     Text { bytes, count }
 }
@@ -120,7 +124,7 @@ fn answer(line: &[u8]) -> Text
     requires { ⌜ length (now line) ≤ longestLine ⌝ }
     ensures { λ r. ⌜ Says (lineText (now (line .entry))) r ⌝ }
 {
-    let mut frame = [0u8; 128];
+    let mut frame = [0u8; MOST_BYTES];
     match reading::unhex(line, &mut frame) {
         Octets::Count(n) => told(&frame[..n]),
         Octets::Wrong => malformed(),
@@ -131,7 +135,7 @@ fn answer(line: &[u8]) -> Text
 fn told(frame: &[u8]) -> Text
     ensures { λ r. ⌜ Says (readingText (readFrame identifierSize (now (frame .entry)))) r ⌝ }
 {
-    let scanned = reader::read(frame);
+    let scanned = frame_reader::read(frame);
     let id = scanned.id;
     let seen = scanned.seen;
     match seen {
@@ -141,10 +145,10 @@ fn told(frame: &[u8]) -> Text
 }
 
 fn refused(at: usize) -> Text
-    requires { ⌜ at ≤ 29 ⌝ }
-    ensures { λ r. ⌜ Says (refusalText 8 at) r ⌝ }
+    requires { ⌜ at ≤ longestFrame ⌝ }
+    ensures { λ r. ⌜ Says (refusalText wrongByte at) r ⌝ }
 {
-    let mut bytes = [0u8; 96];
+    let mut bytes = [0u8; TEXT_ROOM];
     let count = text::decimal_line(
         &mut bytes,
         0,
@@ -157,7 +161,7 @@ fn refused(at: usize) -> Text
 fn parts(id: [u8; IDENTIFIER_SIZE], on: bool, flags: Flags) -> Text
     ensures { λ r. ⌜ Says (partsText (record { identifier = id; protected = on; flags = flags })) r ⌝ }
 {
-    let mut bytes = [0u8; 96];
+    let mut bytes = [0u8; TEXT_ROOM];
     let named = text::put(&mut bytes, 0, b"identifier=");
     let shown = text::hex(&mut bytes, named, &id);
     let protected = protection(&mut bytes, shown, on);

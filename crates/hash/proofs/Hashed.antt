@@ -7,11 +7,13 @@ use native.Mathlib.Omega.{arith}
 use native.Mathlib.Decide.{decLt}
 use lib.ListN.{length, getD, length-append}
 use Rattle.laws.specs.Bytes.{tabulate, bigEndian}
-use Rattle.hash.specs.Sha256.{zeros, padding, pad, wordsAt, block, H⁰, hashValue, digest, SHA256}
+use Rattle.padding.specs.Padding.{zeros, padding, pad, wordsAt, block}
+use Rattle.hash.specs.Sha256.{H⁰, hashValue, digest, SHA256}
 use Rattle.compression.specs.Compression.{compress}
 use Rattle.compression.specs.declared.Working.{Working}
-use Rattle.hash.specs.Blocks.{followed, valueAfter}
-use Rattle.hash.proofs.Padded.{length-pad, length-parts, length-followed, block-words, words-before, words-after}
+use Rattle.padding.specs.Blocks.{followed}
+use Rattle.hash.specs.Sha256.{valueAfter}
+use Rattle.padding.proofs.Padded.{length-pad, length-parts, length-followed, block-words, words-before, words-after}
 
 -- byte i of words of 32 bits
 unfoldable pub byteOf : List ℕ → ℕ → ℕ

@@ -1,4 +1,4 @@
--- What callers use of SHA-256 and HMAC: 32 bytes, each below 256; and that the padding is the one that FIPS 180-4 asks for:
+-- What callers use of SHA-256: 32 bytes, each below 256; and that the padding is the one that FIPS 180-4 asks for:
 -- the fewest zeros, and whole blocks.
 use mathlib.Core.Path.{_≡_, refl}
 use mathlib.Core.List.{List, [], _∷_}
@@ -8,8 +8,8 @@ use native.Mathlib.Decide.{decLt}
 use lib.ListN.{length, getD, List·getD-eq-default}
 use Rattle.laws.specs.Bytes.{bigEndian}
 use Rattle.laws.proofs.Tabulate.{getD-tabulate}
-use Rattle.hash.specs.Sha256.{zeros, pad, digest, SHA256}
-use Rattle.hash.specs.Hmac.{HMAC}
+use Rattle.padding.specs.Padding.{zeros, pad}
+use Rattle.hash.specs.Sha256.{digest, SHA256}
 use Rattle.compression.specs.declared.Working.{Working}
 use Rattle.hash.proofs.Hashed.{byteOf, digest-bytes, zeros-low, zeros-high, length-blocks}
 
@@ -37,14 +37,6 @@ length-SHA256 m = length-digest _
 pub SHA256-byte : (m : List ℕ) (i : ℕ) → getD (SHA256 m) i 0 < 256
 unfolding SHA256
 SHA256-byte m i = digest-byte _ i
-
-pub length-HMAC : (key text : List ℕ) → length (HMAC key text) ≡ 32
-unfolding HMAC
-length-HMAC key text = length-SHA256 _
-
-pub HMAC-byte : (key text : List ℕ) (i : ℕ) → getD (HMAC key text) i 0 < 256
-unfolding HMAC
-HMAC-byte key text i = SHA256-byte _ i
 
 -- zeros l is the smallest number of zeros after which 64 bits are left of a block
 pub zeros-fits : (l : ℕ) → (l + 1 + zeros l) % 64 ≡ 56

@@ -1,5 +1,2 @@
-pub mod Laying
-pub mod Padded
 pub mod Hashed
 pub mod Laws
-pub mod Keys

@@ -1,3 +1,1 @@
 pub mod Sha256
-pub mod Blocks
-pub mod Hmac

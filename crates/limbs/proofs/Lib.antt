@@ -1,5 +1,2 @@
 pub mod Limbs
 pub mod Turns
-pub mod Reduced
-pub mod Steps
-pub mod Products

@@ -1,8 +1,8 @@
 // The multiple of an affine point by a number, from its highest bit down, and the x coordinate of the result.
-use super::Jacobian;
-use super::addition::add;
-use super::doubling::double;
+use addition::add;
 use digits::bit;
+use doubling::Jacobian;
+use doubling::double;
 use field::operation::product;
 use field::power::power;
 ghost use mathlib.Core.Path.{_≡_};
@@ -12,7 +12,7 @@ ghost use Rattle.limbs.specs.Limbs.{value};
 ghost use Rattle.curve_laws.proofs.Jacobian as jacobian;
 ghost use Rattle.curve_laws.proofs.Jacobian.{affineX};
 ghost use Rattle.field.specs.Montgomery.{Field, Form, Holds, Gives, plain};
-ghost use Rattle.points.specs.Coordinates.{coordinates, Forms, Makes};
+ghost use Rattle.doubling.specs.Coordinates.{coordinates, Forms, Makes};
 ghost use Rattle.points.specs.Multiple.{Multiplies};
 
 // One bit more: the double, and the point added where the bit is 1

@@ -1,2 +1,1 @@
 pub mod Standards
-pub mod Calls

@@ -18,7 +18,7 @@ use Rattle.tables.proofs.Rows.{place-at}
 use Rattle.primitives.specs.Standards.{AES128}
 use Rattle.wire.specs.Signing.{recoveryKey}
 use Rattle.wire.specs.Shape.{Request, provenSize}
-use Rattle.wire.specs.KeyBlocks.{decryptedKey, encryptedKey}
+use Rattle.key_blocks.specs.KeyBlocks.{decryptedKey, encryptedKey}
 use Rattle.unit.specs.Change.{withAccounts, withOwner}
 use Rattle.unit.specs.Standing.{shownIdentifier, stands}
 use Rattle.unit.specs.WellFormed.{heldKeys, ownerKey, accountsLegal, ownerLegal}

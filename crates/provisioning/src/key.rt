@@ -19,8 +19,6 @@ use unit::Refusal;
 use unit::TagUnit;
 use unit::change;
 use wire::Head;
-use wire::blocks;
-use wire::shape;
 use wire::signing;
 
 // Whether 0x02 may set the key: a proof of the key in force (48), or no key in force (40).
@@ -29,7 +27,7 @@ fn may_replace(u: TagUnit, h: Head, additional: &[u8]) -> bool
     ensures { λ r. ⌜ r ≡ mayReplace u (request h (now (additional .entry))) ⌝ }
 {
     let k = u.identity;
-    if h.size == shape::PROVEN_SIZE {
+    if h.size == shapes::PROVEN_SIZE {
         if k.held {
             return identity::proves(u, &additional[IDENTITY_KEY_SIZE..]);
         }
@@ -65,7 +63,7 @@ pub fn set_key(u: TagUnit, h: Head, additional: &[u8]) -> Verdict
     }
     let a = u.accounts;
     let key = account::key_at(a, place);
-    let after = awaiting(u, blocks::decrypted_key(key, additional));
+    let after = awaiting(u, key_blocks::decrypted_key(key, additional));
     answering::granted(after, account::signing_key(key), b"")
 }
 
@@ -134,6 +132,6 @@ pub fn recover_key(u: TagUnit, h: Head, additional: &[u8]) -> Verdict
     }
     let k = u.identity;
     let held = k.bytes;
-    let data = blocks::encrypted_key(account::key_at(a, place), held);
+    let data = key_blocks::encrypted_key(account::key_at(a, place), held);
     answering::granted(u, recovery, &data)
 }

@@ -10,14 +10,14 @@ use lib.ListN.{length, take, length-take}
 use borrow.Author.Tests.{le-leb, lt-leb, eq-eqb, ne-eqb, eqb-true, eqb-false}
 use Rattle.lines.specs.declared.Awaited.{Awaited}
 use Rattle.lines.specs.declared.Next.the-variants as next
-use Rattle.replay.specs.declared.Session.{Session}
-use Rattle.replay.specs.declared.Finished.the-variants as finished
-use Rattle.replay.specs.Replay.{longestLine}
-use Rattle.replay.specs.Feeding.{finish}
+use Rattle.session.specs.declared.Session.{Session}
+use Rattle.session.specs.declared.Finished.the-variants as finished
+use Rattle.session.specs.Replay.{longestLine}
+use Rattle.session.specs.Feeding.{finish}
 use Rattle.notation.specs.Written.{PutsText}
-use Rattle.replay.specs.Session.{stateOf, finishRoom, Finishes}
+use Rattle.session.specs.Session.{stateOf, finishRoom, Finishes}
 use Rattle.notation.proofs.Placed.{placed-first, puts-nothing}
-use Rattle.events.specs.Event.{malformedText}
+use Rattle.printing.specs.Texts.{malformedText}
 
 module _ (s : Session) (before : List ℕ) where
   pub no-room : length before < finishRoom → Finishes s before finished.NoRoom before

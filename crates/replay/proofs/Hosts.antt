@@ -7,13 +7,14 @@ use mathlib.Core.List.{List, [], _∷_, _++_, append-nil}
 use lib.Dec.{leb}
 use lib.ListN.{length, take, drop}
 use lib.Seq.{take-at}
-use Rattle.replay.specs.declared.Session.{Session}
-use Rattle.replay.specs.declared.Finished.{Finished}
-use Rattle.replay.specs.declared.Finished.the-variants as finished
-use Rattle.replay.specs.Replay.{replay}
-use Rattle.replay.specs.Feeding.{fed, fedTo, finish, first, inPieces, whole}
-use Rattle.replay.specs.Session.{stateOf, finishRoom, Feeds, Finishes, Calls, none, more, AnyHost}
-use Rattle.replay.proofs.AnyPieces.{fed-append, any-pieces}
+use Rattle.session.specs.declared.Session.{Session}
+use Rattle.session.specs.declared.Finished.{Finished}
+use Rattle.session.specs.declared.Finished.the-variants as finished
+use Rattle.session.specs.Replay.{replay}
+use Rattle.session.specs.Feeding.{fed, fedTo, finish, first, inPieces, whole}
+use Rattle.session.specs.Session.{stateOf, finishRoom, Feeds, Finishes}
+use Rattle.replay.specs.Hosts.{Calls, none, more, AnyHost}
+use Rattle.session.proofs.AnyPieces.{fed-append, any-pieces}
 
 -- what a call wrote is what feeding the bytes that it took prints
 wrote : {s t : Session} {piece before after : List ℕ} {taken written : ℕ} → Feeds s piece before t taken written after

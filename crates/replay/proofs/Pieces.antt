@@ -9,18 +9,18 @@ use native.Mathlib.Omega.{arith}
 use lib.ListN.{length, take, drop, set, getD, length-drop, length-set, take-append-drop}
 use lib.Seq.{take-suc, take-all, take-suc-set, length-take-le, drop-cons, drop-length}
 use borrow.Author.Tests.{eq-eqb, ne-eqb, lt-ltb, le-ltb, le-leb, lt-leb}
-use Rattle.replay.specs.declared.Run.{Run}
-use Rattle.replay.specs.declared.Session.{Session}
+use Rattle.session.specs.declared.Run.{Run}
+use Rattle.session.specs.declared.Session.{Session}
 use Rattle.notation.specs.Text.{newline}
-use Rattle.replay.specs.Replay.{judged, longestLine}
-use Rattle.replay.specs.Feeding.{State, reading, ended, Fed, fed, fedTo, byte, closed}
+use Rattle.session.specs.Replay.{judged, longestLine}
+use Rattle.session.specs.Feeding.{State, reading, ended, Fed, fed, fedTo, byte, closed}
 use Rattle.notation.specs.Written.{PutsText}
-use Rattle.replay.specs.Session.{BoundedRun, Bounded, stateOf, expectedOf, takes, GoesOn, Feeds}
-use Rattle.replay.specs.Closing.{Closes, Takes}
+use Rattle.session.specs.Session.{BoundedRun, Bounded, stateOf, expectedOf, takes, GoesOn, Feeds}
+use Rattle.session.specs.Closing.{Closes, Takes}
 use Rattle.notation.proofs.Placed.{puts-then, puts-nothing, placed-first}
-use Rattle.replay.proofs.AnyPieces.{fed-append, fed-ended}
-use Rattle.events.specs.Event.{malformedText}
-use Rattle.events.specs.Promises.{lineRoom}
+use Rattle.session.proofs.AnyPieces.{fed-append, fed-ended}
+use Rattle.printing.specs.Texts.{malformedText}
+use Rattle.printing.specs.Answers.{lineRoom}
 
 -- after the first bytes of a piece
 pub record Passed (s : Session) (piece before : List ℕ) (session : Session) (written taken : ℕ) (out : List ℕ) : Type 0 where

@@ -1,4 +1,1 @@
-pub mod Replay
-pub mod Feeding
-pub mod Session
-pub mod Closing
+pub mod Hosts

@@ -2,85 +2,32 @@
 ghost use mathlib.Core.Path.{_≡_};
 ghost use Prim.Native.Nat.{_≤_};
 ghost use Rattle.notation.specs.Text.{newline};
-ghost use Rattle.replay.specs.Replay.{longestLine};
-ghost use Rattle.replay.specs.Feeding.{first};
+ghost use Rattle.session.specs.Replay.{longestLine};
+ghost use Rattle.session.specs.Feeding.{first};
 ghost use mathlib.Core.Bool.{cond};
 ghost use mathlib.Core.List.{[]};
 ghost use lib.Dec.{eqb};
 ghost use lib.ListN.{length};
 ghost use Rattle.notation.specs.Written.{PutsText};
-ghost use Rattle.events.specs.Event.{malformedText};
-ghost use Rattle.replay.specs.Session.{stateOf, finishRoom, Bounded, Feeds, Finishes};
-ghost use Rattle.replay.specs.Closing.{BoundedBy, Awaits, Takes};
-use events::printing;
+ghost use Rattle.printing.specs.Texts.{malformedText};
+ghost use Rattle.session.specs.Session.{stateOf, finishRoom, Bounded, Feeds, Finishes};
+ghost use Rattle.session.specs.Closing.{BoundedBy, Awaits, Takes};
 use lines::Awaited;
 use lines::Next;
-use unit::TagUnit;
+use session::After;
+use session::FINISH_ROOM;
+use session::Fed;
+use session::Finished;
+use session::LAST_NUMBER;
+use session::LINE_ROOM;
+use session::LONGEST_LINE;
+use session::Progress;
+use session::Run;
+use session::Session;
+use session::closing;
 use unit::change::no_unit;
 
-mod closing;
-
-// The longest line, without its newline.
-pub const LONGEST_LINE: usize = 256;
-
-// The last line has this number; where it was read, the run goes on to the next.
-pub const MOST_LINES: u32 = 999999;
-
-const LAST_NUMBER: u32 = MOST_LINES + 1;
-
-// Room that holds what any one line prints.
-pub const LINE_ROOM: usize = 256;
-
-// A run between two lines: what is expected, the number of the line that is to come, what was read before it, and the unit.
-pub struct Run {
-    pub ended: bool,
-    pub next: Next,
-    pub number: u32,
-    pub power: i32,
-    pub components: u32,
-    // The bytes of an identifier's r, the first `filled` of them.
-    pub r: [u8; 128],
-    pub filled: usize,
-    pub unit: TagUnit,
-}
-
-// A run, and how many bytes it has written.
-struct Progress {
-    pub run: Run,
-    pub written: usize,
-}
-
-// A run in the middle of a line: the line so far is the first `count` bytes.
-pub struct Session {
-    pub run: Run,
-    pub line: [u8; 256],
-    pub count: usize,
-}
-
-// A session after a byte that ends a line, and the next place of what it writes.
-struct After {
-    pub session: Session,
-    pub written: usize,
-}
-
-// How far a piece was taken.
-pub struct Fed {
-    pub session: Session,
-    // Bytes of the piece that were taken, and bytes that were written.
-    pub taken: usize,
-    pub written: usize,
-}
-
-// The end of a run: the bytes written, or that the lent bytes are too few.
-pub enum Finished {
-    Wrote(usize),
-    NoRoom,
-}
-
 const NEWLINE: u8 = 10;
-
-// Room that holds what the end of a file prints.
-pub const FINISH_ROOM: usize = 64;
 
 // A session before its first byte.
 pub fn begin() -> Session

@@ -2,7 +2,7 @@
 // edges of the format. Then come the inputs that reach line 1,000,000, too long to store. compare/sessions/make.py makes args, data/ and the
 // answers in stdout; none of them comes from this program.
 use libc::STDOUT_FILENO;
-use replay::Session;
+use session::Session;
 
 // The lines of a long input before its last ones: three settings, and presses up to line 999,998.
 const PRESSES: u32 = 999995;

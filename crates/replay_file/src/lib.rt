@@ -2,8 +2,8 @@
 // bytes that the system reads or writes. Where the system fails, standard error says so, the answers so far stand, and nothing more is
 // printed: a file that could not be read to its end is not called malformed.
 use libc::STDOUT_FILENO;
-use replay::Finished;
-use replay::Session;
+use session::Finished;
+use session::Session;
 
 // The bytes that the format can hold: 1,000,000 lines of 256 bytes and their newlines. A read that is not the last brings at least one.
 const MOST_BYTES: u32 = 257000000;

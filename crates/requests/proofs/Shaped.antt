@@ -11,7 +11,7 @@ use borrow.Author.Tests.{le-leb, lt-leb, leb-true, eqb-true}
 use Rattle.laws.proofs.Flags.{and-left, and-right, and-fails-left, or-cases}
 use Rattle.sizes.specs.Sizes.{tagSize, headSize, identityKeySize}
 use Rattle.wire.specs.Shape.{request, parsed, legalSizes, oneOf, sizeLegal, shapeLegal}
-use Rattle.wire.proofs.Sizes.{legal-one}
+use Rattle.shapes.proofs.Sizes.{legal-one}
 
 -- Every length of a row, and of all rows, is at least so much
 abbrev atLeast : ℕ → List ℕ → Bool

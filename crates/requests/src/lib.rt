@@ -24,7 +24,6 @@ use unit::TagUnit;
 use unit::change;
 use unit::end;
 use wire::Head;
-use wire::shape;
 
 // The first request that needs an identity key.
 const FIRST_KEYED: u8 = 0x03;
@@ -56,7 +55,7 @@ fn shape_legal(w: &[u8]) -> bool
     if w.len() < 2 {
         return false;
     }
-    if shape::size_legal(w[0], w[1]) {
+    if shapes::size_legal(w[0], w[1]) {
         return w.len() == (w[1] as usize) + 2;
     }
     false

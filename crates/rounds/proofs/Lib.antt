@@ -1,4 +1,2 @@
-pub mod State
-pub mod Mixing
 pub mod Rounds
 pub mod States

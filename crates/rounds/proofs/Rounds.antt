@@ -3,7 +3,8 @@ use mathlib.Core.Path.{_≡_, refl}
 use mathlib.Core.List.{List}
 use Prim.Native.Nat.{ℕ, _+_}
 use native.Mathlib.Numerals.{add-one}
-use Rattle.rounds.specs.Rounds.{SubBytes, ShiftRows, MixColumns, AddRoundKey, InvSubBytes, InvShiftRows, InvMixColumns, rounds, invRounds}
+use Rattle.steps.specs.Steps.{SubBytes, ShiftRows, MixColumns, AddRoundKey, InvSubBytes, InvShiftRows, InvMixColumns}
+use Rattle.rounds.specs.Rounds.{rounds, invRounds}
 
 module _ (w s : List ℕ) where
   pub rounds-zero : rounds w 0 s ≡ AddRoundKey w 0 s

@@ -12,8 +12,9 @@ use Rattle.laws.proofs.Xor.{length-⊕}
 use Rattle.substitution.specs.Field.{_•_}
 use Rattle.substitution.specs.Box.{SBox, InvSBox}
 use Rattle.columns.specs.Columns.{mixedByte}
-use Rattle.rounds.specs.Rounds.{at, stateOf, mixed, SubBytes, ShiftRows, MixColumns, AddRoundKey, InvSubBytes, InvShiftRows, InvMixColumns, rounds, invRounds, Cipher, InvCipher}
-use Rattle.rounds.proofs.State.{long-roundKey}
+use Rattle.steps.specs.Steps.{at, stateOf, mixed, SubBytes, ShiftRows, MixColumns, AddRoundKey, InvSubBytes, InvShiftRows, InvMixColumns}
+use Rattle.rounds.specs.Rounds.{rounds, invRounds, Cipher, InvCipher}
+use Rattle.steps.proofs.State.{long-roundKey}
 use Rattle.substitution.proofs.Bytes.{Bytes, bytes-map, bytes-take, bytes-drop, bytes-⊕, bytes-tabulate, product-below, SBox-below, InvSBox-below}
 
 pub record State (s : List ℕ) : Type 0 where

@@ -26,6 +26,10 @@ blockSize = 16
 abbrev pub digestSize : ℕ
 digestSize = 32
 
+-- "SHA-256 and HMAC over messages up to 65,535 bytes"
+abbrev pub longestMessage : ℕ
+longestMessage = 65535
+
 -- "Up to 5 account keys of 16 bytes"
 abbrev pub accountKeySize : ℕ
 accountKeySize = 16
@@ -43,6 +47,16 @@ identityKeySize = 32
 -- "r (20 bytes) and the identifier (20 bytes)"
 abbrev pub identifierSize : ℕ
 identifierSize = 20
+
+-- "02 01 06, length 0x18 or 0x19, 16 AA FE, 0x40 (0x41 under protection), identifier: 28 bytes, or 29 with the flags byte"
+abbrev pub frameIdentifierAt : ℕ
+frameIdentifierAt = 8
+
+abbrev pub frameFlagsAt : ℕ → ℕ
+frameFlagsAt size = frameIdentifierAt + size
+
+abbrev pub longestFrame : ℕ
+longestFrame = frameFlagsAt identifierSize + 1
 
 -- "A write is ID, length, 8 tag bytes, additional data"
 abbrev pub headSize : ℕ

@@ -9,11 +9,21 @@ pub const BLOCK_SIZE: usize = 16;
 
 pub const DIGEST_SIZE: usize = 32;
 
+// The longest message, and the longest key of HMAC.
+pub const LONGEST_MESSAGE: usize = 65535;
+
 pub const ACCOUNT_KEY_SIZE: usize = 16;
 
 pub const IDENTITY_KEY_SIZE: usize = 32;
 
 pub const IDENTIFIER_SIZE: usize = 20;
+
+// A frame: where its identifier stands, behind the head, and its flags byte, and the bytes of one that has it.
+pub const FRAME_IDENTIFIER_AT: usize = 8;
+
+pub const FRAME_FLAGS_AT: usize = FRAME_IDENTIFIER_AT + IDENTIFIER_SIZE;
+
+pub const LONGEST_FRAME: usize = FRAME_FLAGS_AT + 1;
 
 // The nonces that a unit has room for, those issued last: the newest, and the earlier ones.
 pub const MOST_NONCES: u8 = 16;

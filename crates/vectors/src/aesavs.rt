@@ -11,10 +11,10 @@ fn once(way: Way, key: [u8; 16], block: [u8; 16]) -> [u8; 16] {
     let mut done = [0u8; 16];
     match way {
         Way::Encrypt => {
-            primitives::aes128_encrypt(&key, &block, &mut done);
+            primitive_calls::aes128_encrypt(&key, &block, &mut done);
         }
         Way::Decrypt => {
-            primitives::aes128_decrypt(&key, &block, &mut done);
+            primitive_calls::aes128_decrypt(&key, &block, &mut done);
         }
     }
     done

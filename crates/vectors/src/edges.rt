@@ -2,7 +2,7 @@
 // refusal 7, and the answer after the call: ee where nothing was written. Key and message are the first bytes of one sequence. compare/vectors.py
 // has the answers from hashlib, hmac and OpenSSL.
 use crate::print;
-use primitives::Ending;
+use primitive_calls::Ending;
 
 enum Call {
     Hash,
@@ -24,10 +24,10 @@ fn sequence() -> [u8; 65536] {
 
 fn called(call: Call, key: &[u8], message: &[u8], answer: &mut [u8]) -> Ending {
     match call {
-        Call::Hash => primitives::sha256(message, answer),
-        Call::Authenticate => primitives::hmac_sha256(key, message, answer),
-        Call::Encrypt => primitives::aes128_encrypt(key, message, answer),
-        Call::Decrypt => primitives::aes128_decrypt(key, message, answer),
+        Call::Hash => primitive_calls::sha256(message, answer),
+        Call::Authenticate => primitive_calls::hmac_sha256(key, message, answer),
+        Call::Encrypt => primitive_calls::aes128_encrypt(key, message, answer),
+        Call::Decrypt => primitive_calls::aes128_decrypt(key, message, answer),
     }
 }
 
@@ -80,7 +80,7 @@ fn parts(bytes: &[u8], key: u32, head: u32, tail: u32, last: u32) {
     let t = io::count(tail as isize, bytes);
     let l = io::count(last as isize, bytes);
     let mut answer = [0xeeu8; 32];
-    let end = primitives::hmac_sha256_parts(
+    let end = primitive_calls::hmac_sha256_parts(
         &bytes[..k],
         &bytes[..h],
         &bytes[..t],

@@ -1,4 +1,3 @@
 pub mod Laws
 pub mod Tagged
-pub mod Sizes
 pub mod Written

@@ -1,3 +1,2 @@
 pub mod Signing
 pub mod Shape
-pub mod KeyBlocks

@@ -1,10 +1,12 @@
 -- "A write is ID, length, 8 tag bytes, additional data": its parts, and which shapes are legal.
 use Prim.Native.Nat.{ℕ, _+_}
-use mathlib.Core.Bool.{Bool, false, _&&_, _||_}
-use mathlib.Core.List.{List, [], _∷_}
+use mathlib.Core.Bool.{Bool, _&&_}
+use mathlib.Core.List.{List}
 use lib.Dec.{leb, eqb}
 use lib.ListN.{length, getD, take, drop}
 use Rattle.wire.specs.declared.Head.{Head}
+pub use Rattle.shapes.specs.Lengths.{provenSize}
+unfoldable pub use Rattle.shapes.specs.Lengths.{legalSizes, oneOf, sizeLegal}
 use Rattle.sizes.specs.Sizes.{tagSize}
 
 -- the parts of a write (its length byte is `size` here); "the additional data is the part of the write from byte 10 onward"
@@ -20,32 +22,6 @@ request h additional = record { id = h .id; size = h .size; tag = h .tag; additi
 
 unfoldable pub parsed : List ℕ → Request
 parsed w = record { id = getD w 0 0; size = getD w 1 0; tag = take tagSize (drop 2 w); additional = drop (2 + tagSize) w }
-
--- the length of a 0x02 that proves the key held
-abbrev pub provenSize : ℕ
-provenSize = 48
-
--- "Legal lengths: 0x00, 0x01, 0x04, 0x06: 8; 0x02: 40 or 48; 0x03, 0x08: 16; 0x05: 12; 0x07: 8 or 9", by ID
-unfoldable pub legalSizes : List (List ℕ)
-legalSizes =
-    (8 ∷ [])  -- 0x00
-    ∷ (8 ∷ [])  -- 0x01
-    ∷ (40 ∷ provenSize ∷ [])  -- 0x02
-    ∷ (16 ∷ [])  -- 0x03
-    ∷ (8 ∷ [])  -- 0x04
-    ∷ (12 ∷ [])  -- 0x05
-    ∷ (8 ∷ [])  -- 0x06
-    ∷ (8 ∷ 9 ∷ [])  -- 0x07
-    ∷ (16 ∷ [])  -- 0x08
-    ∷ []
-
-unfoldable pub oneOf : ℕ → List ℕ → Bool
-oneOf n [] = false
-oneOf n (x ∷ xs) = eqb n x || oneOf n xs
-
--- An unknown ID has no legal length
-unfoldable pub sizeLegal : ℕ → ℕ → Bool
-sizeLegal id size = oneOf size (getD legalSizes id [])
 
 -- A write has an ID and a length byte; "so the write has length + 2 bytes"
 unfoldable pub shapeLegal : List ℕ → Bool

@@ -3,8 +3,6 @@
 use sizes::TAG_SIZE;
 
 pub mod answer;
-pub mod blocks;
-pub mod shape;
 pub mod signing;
 
 // The first ten bytes of a write: ID, length and tag. The additional data follows as a part of the write itself.

@@ -1,8 +1,8 @@
 -- `desk::read` meets its contract: what the reader promises, in the lent bytes.
 use mathlib.Core.Path.{refl}
 use lib.ListN.{length}
-use Rattle.frame.specs.Reader.{readFrame}
-use Rattle.frame.proofs.Scanning.{wrong-read, frame-read, wrong-small}
+use Rattle.frame_reader.specs.Reader.{readFrame}
+use Rattle.frame_reader.proofs.Scanning.{wrong-read, frame-read, wrong-small}
 use Rattle.desk.specs.Exported.{partBytes, written}
 use Rattle.desk.proofs.Exporting.{no-room, exports-refusal, exports-bytes}
 use borrow.Author.Needs.{needs}

@@ -4,7 +4,7 @@ use native.Mathlib.Omega.{arith}
 use lib.ListN.{length}
 use Rattle.unit.specs.Refusals.{endOf}
 use Rattle.tag.specs.Calls.{elapsed}
-use Rattle.firmware.specs.Exported.{endCode}
+use Rattle.exports.specs.Exported.{endCode}
 use Rattle.firmware.proofs.Exporting.{passes-whole, passes-exports, code-small}
 use borrow.Author.Needs.{needs}
 use Rattle.firmware.proofs.tag_elapsed.Statement.{statement}

@@ -2,7 +2,7 @@
 use mathlib.Core.Bool.{false≢true}
 use mir.Facts.{toZ-ofZ}
 use borrow.Author.Tests.{eq-eqb, ne-eqb}
-use Rattle.firmware.specs.Exported.{code, recordAfter}
+use Rattle.exports.specs.Exported.{code, recordAfter}
 use Rattle.firmware.proofs.Exporting.{exported, new-untimed}
 use borrow.Author.Needs.{needs}
 use Rattle.firmware.proofs.tag_new.Statement.{statement}

@@ -1,5 +1,5 @@
 -- `frame_text::told` meets its contract, by what was read.
-use Rattle.frame.proofs.Scanning.{wrong-read, frame-read, wrong-small}
+use Rattle.frame_reader.proofs.Scanning.{wrong-read, frame-read, wrong-small}
 use borrow.Author.Needs.{needs}
 use Rattle.frame_text.proofs.told.Statement.{statement}
 use Rattle.frame_text.proofs.told.Tie as tie

@@ -7,8 +7,9 @@ use borrow.Author.Needs.{needs}
 use denote.Ref.{now}
 use lib.ListN.{length}
 use Rattle.hash.specs.Sha256.{hashValue}
-use Rattle.hash.specs.Blocks.{followed, valueAfter}
-use Rattle.hash.proofs.Padded.{length-block}
+use Rattle.padding.specs.Blocks.{followed}
+use Rattle.hash.specs.Sha256.{valueAfter}
+use Rattle.padding.proofs.Padded.{length-block}
 use Rattle.hash.proofs.Hashed.{value-start, value-more, block-within, hashed}
 use Rattle.hash.proofs.digest_after.Statement.{statement}
 use Rattle.hash.proofs.digest_after.Tie as tie

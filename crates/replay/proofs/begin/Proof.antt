@@ -3,7 +3,7 @@ use mathlib.Core.Path.{ap}
 use native.Mathlib.Omega.{arith}
 use borrow.Author.Needs.{needs}
 use Rattle.unit.specs.declared.TagUnit.{TagUnit}
-use Rattle.replay.specs.Feeding.{reading}
+use Rattle.session.specs.Feeding.{reading}
 use Rattle.replay.proofs.begin.Statement.{statement}
 use Rattle.replay.proofs.begin.Tie as tie
 use Rattle.lines.specs.Lines.{inside, power}

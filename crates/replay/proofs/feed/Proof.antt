@@ -2,7 +2,7 @@
 use borrow.Author.Needs.{needs}
 use mathlib.Core.Path.{refl}
 use Rattle.laws.proofs.Flags.{clash}
-use Rattle.replay.specs.Feeding.{fed}
+use Rattle.session.specs.Feeding.{fed}
 use Rattle.replay.proofs.feed.Statement.{statement}
 use Rattle.replay.proofs.feed.Tie as tie
 

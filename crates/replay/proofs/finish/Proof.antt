@@ -3,7 +3,7 @@ use borrow.Author.Needs.{needs}
 use mathlib.Core.Path.{_≡_}
 use lib.ListN.{length}
 use native.Mathlib.Omega.{arith}
-use Rattle.replay.specs.Replay.{longestLine}
+use Rattle.session.specs.Replay.{longestLine}
 use Rattle.replay.proofs.Ending.{no-room, over, event-left, inside-left}
 use Rattle.replay.proofs.finish.Statement.{statement}
 use Rattle.replay.proofs.finish.Tie as tie

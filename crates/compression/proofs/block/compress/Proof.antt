@@ -4,7 +4,7 @@ use Prim.Native.Nat.{_-_, _*_, _≤_}
 use native.Mathlib.Omega.{arith}
 use denote.Ref.{now}
 use borrow.Author.Needs.{needs}
-use Rattle.compression.specs.Window.{Taken}
+use Rattle.compression.specs.Turns.{Taken}
 use Rattle.compression.proofs.Turns.{pass-more, taken-all}
 use Rattle.compression.proofs.block.compress.Statement.{statement}
 use Rattle.compression.proofs.block.compress.Tie as tie

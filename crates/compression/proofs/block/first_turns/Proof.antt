@@ -1,7 +1,8 @@
 -- `compression::block::first_turns` takes the first sixteen turns one after another.
 use denote.Ref.{now}
 use lib.Dec.{lit<}
-use Rattle.compression.proofs.Turns.{made-first, taken-one, _▹_, constant-at}
+use Rattle.message_schedule.proofs.Window.{made-first}
+use Rattle.compression.proofs.Turns.{taken-one, _▹_, constant-at}
 use borrow.Author.Needs.{needs}
 use Rattle.compression.proofs.block.first_turns.Statement.{statement}
 use Rattle.compression.proofs.block.first_turns.Tie as tie

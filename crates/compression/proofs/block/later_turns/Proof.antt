@@ -3,7 +3,7 @@ use Prim.Native.Nat.{_*_}
 use native.Mathlib.Nat.{add-zero}
 use denote.Ref.{now}
 use lib.Dec.{lit<}
-use Rattle.compression.specs.Window.{Taken}
+use Rattle.compression.specs.Turns.{Taken}
 use Rattle.compression.proofs.Turns.{_▹_, constant-at}
 use borrow.Author.Needs.{needs}
 use Rattle.compression.proofs.block.later_turns.Statement.{statement}

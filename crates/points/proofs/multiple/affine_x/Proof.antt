@@ -1,5 +1,5 @@
 -- `multiple::affine_x` meets its contract: one inversion, by Fermat.
-use Rattle.points.proofs.Formulas.{affine-is}
+use Rattle.doubling.proofs.Formulas.{affine-is}
 use denote.Ref.{now}
 use Rattle.limbs.specs.Limbs.{value}
 use Rattle.field.specs.Montgomery.{plain}

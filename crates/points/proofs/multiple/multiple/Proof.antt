@@ -7,8 +7,9 @@ use Rattle.limbs.specs.Limbs.{value}
 use Rattle.field.specs.Montgomery.{plain}
 use Rattle.field.proofs.Forms.{holds-none}
 use Rattle.curve_laws.proofs.Jacobian.{binary}
-use Rattle.points.specs.Coordinates.{Held}
-use Rattle.points.proofs.Rules.{held-as, held-coordinates, held-multiplies, binary-start, binary-turn, binary-end}
+use Rattle.doubling.specs.Coordinates.{Held}
+use Rattle.addition.proofs.Sums.{held-as}
+use Rattle.points.proofs.Rules.{held-coordinates, held-multiplies, binary-start, binary-turn, binary-end}
 use Rattle.points.proofs.multiple.multiple.Statement.{statement}
 use Rattle.points.proofs.multiple.multiple.Tie as tie
 

@@ -1,6 +1,7 @@
 -- `multiple::turn` meets its contract, for either bit.
-use Rattle.points.specs.Coordinates.{coordinates}
-use Rattle.points.proofs.Rules.{held-as, held-coordinates, turn-double, turn-add}
+use Rattle.doubling.specs.Coordinates.{coordinates}
+use Rattle.addition.proofs.Sums.{held-as}
+use Rattle.points.proofs.Rules.{held-coordinates, turn-double, turn-add}
 use denote.Ref.{now}
 use Rattle.limbs.specs.Limbs.{value}
 use Rattle.field.specs.Montgomery.{plain}

@@ -1,0 +1,2 @@
+pub mod AnyPieces
+pub mod ClosedLines

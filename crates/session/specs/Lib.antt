@@ -1,0 +1,4 @@
+pub mod Replay
+pub mod Feeding
+pub mod Session
+pub mod Closing

@@ -1,0 +1,80 @@
+// The steps of a round, FIPS 197, §5.1: each takes the state by value and gives the next one.
+ghost use mathlib.Core.Path.{_≡_};
+ghost use Prim.Native.Nat.{_+_, _*_, _≤_};
+ghost use lib.ListN.{length};
+ghost use Rattle.steps.specs.Steps.{SubBytes, ShiftRows, MixColumns, AddRoundKey};
+ghost use Rattle.substitution.specs.Box.{SBox, TableOf};
+use columns::mixed_column;
+use substitution::look_up;
+
+// The box is lent, as a table.
+pub fn sub_bytes(table: &[u8; 256], s: [u8; 16]) -> [u8; 16]
+    requires { ⌜ TableOf SBox (now table) ⌝ }
+    ensures { λ r. ⌜ r ≡ SubBytes s ⌝ }
+{
+    look_up(table, s)
+}
+
+pub fn shift_rows(s: [u8; 16]) -> [u8; 16]
+    ensures { λ r. ⌜ r ≡ ShiftRows s ⌝ }
+{
+    [
+        s[0],
+        s[5],
+        s[10],
+        s[15],
+        s[4],
+        s[9],
+        s[14],
+        s[3],
+        s[8],
+        s[13],
+        s[2],
+        s[7],
+        s[12],
+        s[1],
+        s[6],
+        s[11],
+    ]
+}
+
+pub fn mix_columns(s: [u8; 16]) -> [u8; 16]
+    ensures { λ r. ⌜ r ≡ MixColumns s ⌝ }
+{
+    let column0 = mixed_column(s[0], s[1], s[2], s[3]);
+    let column1 = mixed_column(s[4], s[5], s[6], s[7]);
+    let column2 = mixed_column(s[8], s[9], s[10], s[11]);
+    let column3 = mixed_column(s[12], s[13], s[14], s[15]);
+    [
+        column0[0],
+        column0[1],
+        column0[2],
+        column0[3],
+        column1[0],
+        column1[1],
+        column1[2],
+        column1[3],
+        column2[0],
+        column2[1],
+        column2[2],
+        column2[3],
+        column3[0],
+        column3[1],
+        column3[2],
+        column3[3],
+    ]
+}
+
+pub fn add_round_key(keys: &[u8], round: usize, s: [u8; 16]) -> [u8; 16]
+    requires { ⌜ 16 * round + 16 ≤ length (now keys) ⌝ }
+    ensures { λ r. ⌜ r ≡ AddRoundKey (now (keys .entry)) round s ⌝ }
+{
+    let start = 16 * round;
+    let mut out = [0u8; 16];
+    let mut i: usize = 0;
+    while i < 16 {
+        out[i] = s[i] ^ keys[start + i];
+        i += 1;
+    }
+    out
+}
