@@ -83,7 +83,7 @@ def main():
     wanted["TAG_WRONG_SIZE"] = int(re.search(r"^endNumber Ending\.WrongSize = (\d+)$", calls, re.M)[1])
     for name, n in re.findall(r"^refusalNumber (\w+) = (0x[0-9a-fA-F]+|\d+)$", read("crates/unit/specs/Refusals.antt"), re.M):
         wanted[header_name(name)] = int(n, 0)
-    for name, n in re.findall(r"^(started|timedOut|byButton|byRequest) = (\d+)$", read("crates/wire/specs/Signing.antt"), re.M):
+    for name, n in re.findall(r"^(started|failed|timedOut|byButton|byRequest) = (\d+)$", read("crates/wire/specs/Signing.antt"), re.M):
         wanted[header_name("ring" + name[0].upper() + name[1:])] = int(n)
     macros = dict(re.findall(r"^#define (TAG_\w+) (\([^/\n]*\)|\w+)", read("include/tag.h"), re.M))
     header = {n: value(n, macros) for n in macros}

@@ -27,7 +27,7 @@ static void write_request(void) {
     covered[9] = 0x00, covered[10] = 8;
     tag_hmac_sha256(key, 16, covered, 11, tag, 32);
     memcpy(w + 2, tag, 8);
-    served = tag_write(record, sizeof record, w, 10, answer, TAG_ANSWER_ROOM);
+    served = tag_write(record, sizeof record, w, 10, 0, answer, TAG_ANSWER_ROOM);
 }
 
 static size_t used(void (*f)(void)) {

@@ -7,10 +7,11 @@ file=$(mktemp)
 trap 'rm -f "$file"' EXIT
 awk 'BEGIN {
     print "power=-20"; print "components=3"; print "volume=1"; n = 3
-    while (n + 8 <= 999999) {
+    while (n + 9 <= 999999) {
         print "event=elapsed"; print "tenths=" (n % 7919); print "event=pairing"; print "on=" (n % 2)
         print "event=battery"; print "level=" (n % 4); print "event=write"; print "data=0908000102030405060708090a0b0c0d0e0f"
-        n += 8
+        print "reach=07"
+        n += 9
     }
     while (n < 999999) { print "event=button"; n++ }
 }' > "$file"

@@ -72,6 +72,7 @@ extern "C" {
 
 /* The status byte of a ring notice. */
 #define TAG_RING_STARTED 0
+#define TAG_RING_FAILED 1 /* no part that was asked for, or that sounds, could be reached */
 #define TAG_RING_TIMED_OUT 2
 #define TAG_RING_BY_BUTTON 3
 #define TAG_RING_BY_REQUEST 4
@@ -120,9 +121,11 @@ uint64_t tag_new(uint8_t *record, uint64_t record_bytes, int32_t power, uint32_t
  * length or for a nonce that is one of the last TAG_MOST_NONCES issued, live or spent, a clear (0x03) included. Gives 9. */
 uint64_t tag_read(uint8_t *record, uint64_t record_bytes, const uint8_t *nonce, uint64_t nonce_bytes, uint8_t *answer, uint64_t answer_bytes);
 
-/* Write: a request of the phone's. Answer: what to notify. Refusals: 6, 2, and then, with the nonce spent, 0x81 for its shape, 0x80,
- * 0x81 for its values, 0x82. Gives the answer's bytes, 10 to 42. */
-uint64_t tag_write(uint8_t *record, uint64_t record_bytes, const uint8_t *request, uint64_t request_bytes, uint8_t *answer, uint64_t answer_bytes);
+/* Write: a request of the phone's, with the mask of the parts that can be reached now, which only 0x05 looks at: a ring leaves out the parts that
+ * cannot be reached; with none of them, and a stop with none of those that sound, it fails with a notice of status 1 and changes neither ring nor
+ * time left. Answer: what to notify. Refusals: 6, 2, 1 for a mask with a bit that names no component, and then, with the nonce spent, 0x81 for its
+ * shape, 0x80, 0x81 for its values, 0x82. Gives the answer's bytes, 10 to 42. */
+uint64_t tag_write(uint8_t *record, uint64_t record_bytes, const uint8_t *request, uint64_t request_bytes, uint32_t reach, uint8_t *answer, uint64_t answer_bytes);
 
 /* The button: stops a ring, with a notice of status 3; while silent gives consent for 600 tenths. Refusals: 6, 2. Gives 14 or 0. */
 uint64_t tag_button(uint8_t *record, uint64_t record_bytes, uint8_t *answer, uint64_t answer_bytes);

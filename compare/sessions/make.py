@@ -24,6 +24,7 @@ import frames
 import matching
 import nonces
 import provisioning
+import reaching
 import refusals
 import ringing
 from malformed import LAST_LINES, MALFORMED, long_inputs

@@ -15,7 +15,7 @@ def no(code):
 
 
 MALFORMED = [
-    ("worked-example", THREE + NONCE + "event=write\ndata=0908\nevent=elapsed\ntenths=25\n",
+    ("worked-example", THREE + NONCE + "event=write\ndata=0908\nreach=07\nevent=elapsed\ntenths=25\n",
      "answer=read\nbytes=010102030405060708\nanswer=refused\ncode=81\nanswer=elapsed\nnotes=0\nclock=2\n"),
     # Missing lines.
     ("empty-file", "", bad(1)),
@@ -71,7 +71,7 @@ MALFORMED = [
     # Long lines.
     ("line-of-256", THREE + "event=read\nnonce=" + "00" * 125 + "\nevent=button\n", no("03") + "answer=button\n"),
     ("line-of-257", THREE + "event=write\ndata=" + "00" * 126 + "\nevent=button\n", bad(5)),
-    ("line-of-255-data", THREE + "event=write\ndata=" + "00" * 125 + "\nevent=button\n", no("81") + "answer=button\n"),
+    ("line-of-255-data", THREE + "event=write\ndata=" + "00" * 125 + "\nreach=07\nevent=button\n", no("81") + "answer=button\n"),
     ("key-line-of-256", THREE + "event=key\nbytes=" + "ab" * 125 + "\n", no("04")),
     ("event-line-of-256", THREE + "event=" + "a" * 250 + "\n", bad(4)),
     ("event-line-of-257", THREE + "event=" + "a" * 251 + "\n", bad(4)),
@@ -168,12 +168,38 @@ MALFORMED = [
     ("hex-odd-r", THREE + "event=identifier\nr=0\nid=00\n", bad(5)),
     ("hex-upper-id", THREE + "event=identifier\nr=00\nid=0A\n", bad(6)),
     ("hex-empty-nonce", THREE + "event=read\nnonce=\n", no("03")),
-    ("hex-empty-data", THREE + "event=write\ndata=\n", no("81")),
+    ("hex-empty-data", THREE + "event=write\ndata=\nreach=07\n", no("81")),
     ("hex-empty-bytes", THREE + "event=key\nbytes=\n", no("04")),
     ("hex-empty-r-and-id", THREE + "event=identifier\nr=\nid=\n", no("01")),
     ("hex-zero-nonce-twice", THREE + "event=read\nnonce=0000000000000000\n" * 2,
      "answer=read\nbytes=010000000000000000\n" + no("03")),
     ("hex-all-digits", THREE + "event=read\nnonce=0123456789abcdef\n", "answer=read\nbytes=010123456789abcdef\n"),
+    # The parts in reach: one byte.
+    ("no-reach", THREE + "event=write\ndata=0908\n", bad(6)),
+    ("event-for-reach", THREE + "event=write\ndata=0908\nevent=button\n", bad(6)),
+    ("reach-empty", THREE + "event=write\ndata=0908\nreach=\n", bad(6)),
+    ("reach-one-digit", THREE + "event=write\ndata=0908\nreach=7\n", bad(6)),
+    ("reach-three-digits", THREE + "event=write\ndata=0908\nreach=007\n", bad(6)),
+    ("reach-two-bytes", THREE + "event=write\ndata=0908\nreach=0707\n", bad(6)),
+    ("reach-two-bytes-with-zeros", THREE + "event=write\ndata=0908\nreach=0007\n", bad(6)),
+    ("reach-upper-case", "power=0\ncomponents=3\nvolume=1\nevent=write\ndata=0908\nreach=0A\n", bad(6)),
+    ("reach-other-letter", THREE + "event=write\ndata=0908\nreach=0g\n", bad(6)),
+    ("reach-0x", THREE + "event=write\ndata=0908\nreach=0x07\n", bad(6)),
+    ("reach-blank-before", THREE + "event=write\ndata=0908\nreach= 07\n", bad(6)),
+    ("reach-blank-after", THREE + "event=write\ndata=0908\nreach=07 \n", bad(6)),
+    ("reach-cr-lf", THREE + "event=write\ndata=0908\nreach=07\r\n", bad(6)),
+    ("reach-not-closed", THREE + "event=write\ndata=0908\nreach=07", bad(6)),
+    ("reach-first", THREE + "event=write\nreach=07\ndata=0908\n", bad(5)),
+    ("reach-twice", THREE + "event=write\ndata=0908\nreach=07\nreach=07\n", no("81") + bad(7)),
+    ("reach-by-another-name", THREE + "event=write\ndata=0908\nmask=07\n", bad(6)),
+    ("reach-after-button", THREE + "event=button\nreach=07\n", "answer=button\n" + bad(5)),
+    ("reach-for-data", THREE + "event=write\ndata=09 08\nreach=7\n", bad(5)),
+    ("reach-line-of-256", THREE + "event=write\ndata=0908\nreach=" + "00" * 125 + "\n", bad(6)),
+    ("reach-line-of-258", THREE + "event=write\ndata=0908\nreach=" + "00" * 126 + "\n", bad(6)),
+    ("reach-00-to-07", THREE + "".join(f"event=write\ndata=0908\nreach=0{n}\n" for n in range(8)), no("81") * 8),
+    ("reach-outside", THREE + "".join(f"event=write\ndata=0908\nreach={n}\n" for n in ("08", "0f", "10", "80", "87", "ff")), no("01") * 6),
+    ("reach-without-components", "power=0\ncomponents=0\nvolume=0\nevent=write\ndata=\nreach=00\nevent=write\ndata=\nreach=01\n", no("81") + no("01")),
+    ("reach-with-two-components", "power=0\ncomponents=2\nvolume=0\nevent=write\ndata=\nreach=03\nevent=write\ndata=\nreach=04\n", no("81") + no("01")),
     # Keys, names and order.
     ("unknown-event", THREE + "event=sleep\n", bad(4)),
     ("empty-event", THREE + "event=\n", bad(4)),
@@ -214,7 +240,7 @@ MALFORMED = [
     ("malformed-before-refused", "power=21\ncomponents=x\nvolume=1\n", bad(2)),
     ("refused-and-missing", "power=21\ncomponents=3\n", bad(3)),
     # All answers that need no keys, in one file.
-    ("all-events", THREE + NONCE + "event=write\ndata=0108000000000000000" + "0\nevent=elapsed\ntenths=11\nevent=button\n"
+    ("all-events", THREE + NONCE + "event=write\ndata=0108000000000000000" + "0\nreach=00\nevent=elapsed\ntenths=11\nevent=button\n"
      "event=pairing\non=1\nevent=battery\nlevel=2\nevent=key\nbytes=" + "0f" * 16 + "\nevent=identifier\nr=" + "00" * 20
      + "\nid=" + "00" * 20 + "\nevent=frame\nevent=disconnect\nevent=button\n",
      READ + no("80") + "answer=elapsed\nnotes=0\nclock=1\nanswer=button\nanswer=pairing\nanswer=battery\nanswer=key\n"

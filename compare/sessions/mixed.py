@@ -77,6 +77,11 @@ def random_session(seed):
             key = dice.choice(pool)
         return request(key, nonce, ident, data)
 
+    def reach():
+        if chance(0.5):
+            return tag.parts
+        return dice.randrange(tag.parts + 1) if chance(0.9) else dice.choice((tag.parts + 1, 0x80, 0xFF, dice.randrange(256)))
+
     def damaged(data):
         data = bytearray(data)
         way = dice.randrange(7)
@@ -109,9 +114,9 @@ def random_session(seed):
         elif past and chance(0.04):
             data = dice.choice(past)
         past.append(data)
-        s.write(data, None)
+        s.write(data, None, reach())
         if chance(0.04):
-            s.write(data, None)
+            s.write(data, None, reach())
 
     def time():
         near = [0, 1, 2, 9, 10, 11, 599, 600] + [dice.randrange(1, 30) for _ in range(6)]

@@ -80,7 +80,14 @@ class Model:
         self.nonces, self.live = [nonce] + self.nonces[:15], True
         return b"\x01" + nonce
 
-    def write(self, data):
+    @property
+    def parts(self):
+        """The ringable mask."""
+        return (1 << self.components) - 1
+
+    def write(self, data, reach):
+        if reach | self.parts != self.parts:
+            raise Refused(1)
         live, self.live = self.live, False
         if len(data) < 2 or data[1] not in LENGTHS.get(data[0], ()) or len(data) != data[1] + 2:
             raise Refused(0x81)
@@ -126,18 +133,20 @@ class Model:
             return response(self.sub_key(1), self.nonce, 4, encrypt(self.owner, self.identity))
         if ident == 5:
             need(self.protection is True or right(self.sub_key(2)))
-            whole = (1 << self.components) - 1
+            whole = self.parts
             mask, left, volume = tail[0], int.from_bytes(tail[1:3], "big"), tail[3]
             if mask == 0xFF:
                 need(whole, 0x81)
                 mask = whole
             need(mask | whole == whole and volume <= 3, 0x81)
             need(mask == 0 or 1 <= left <= 6000, 0x81)
+            if not reach & (mask or (self.ring[0] if self.ring else 0)) and (mask or self.ring):
+                return self.notice(self.nonce, 1, *(self.ring[:2] if self.ring else ()))
             if mask == 0:
                 self.ring = None
                 return self.notice(self.nonce, 4)
-            self.ring = [mask, left, self.nonce]
-            return self.notice(self.nonce, 0, mask, left)
+            self.ring = [mask & reach, left, self.nonce]
+            return self.notice(self.nonce, 0, mask & reach, left)
         if ident == 6:
             need(right(self.sub_key(2)))
             mask, left = self.ring[:2] if self.ring else (0, 0)

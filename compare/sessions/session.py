@@ -49,8 +49,10 @@ class Session:
             self.count += 1
         self.run("read", ["nonce=" + nonce.hex()], lambda: self.tag.read(nonce), expect)
 
-    def write(self, data, expect=OK):
-        self.run("write", ["data=" + data.hex()], lambda: self.tag.write(data), expect)
+    def write(self, data, expect=OK, reach=None):
+        """With everything in reach, unless a mask is given."""
+        reach = self.tag.parts if reach is None else reach
+        self.run("write", ["data=" + data.hex(), f"reach={reach:02x}"], lambda: self.tag.write(data, reach), expect)
 
     def elapsed(self, tenths, ends=None):
         self.lines += ["event=elapsed", f"tenths={tenths}"]
@@ -91,18 +93,18 @@ class Session:
 
     # Whole requests, each with a read before it.
 
-    def ask(self, key, ident, data=b"", expect=OK):
+    def ask(self, key, ident, data=b"", expect=OK, reach=None):
         """A read, then a write with a right tag. Data may be a function of the nonce."""
         self.read()
         if callable(data):
             data = data(self.tag.nonce)
-        self.write(request(key, self.tag.nonce, ident, data), expect)
+        self.write(request(key, self.tag.nonce, ident, data), expect, reach)
 
     def sub(self, number):
         return self.tag.sub_key(number)
 
-    def ring(self, mask, tenths, volume=0, expect=OK):
-        self.ask(self.sub(2), 5, bytes([mask]) + tenths.to_bytes(2, "big") + bytes([volume]), expect)
+    def ring(self, mask, tenths, volume=0, expect=OK, reach=None):
+        self.ask(self.sub(2), 5, bytes([mask]) + tenths.to_bytes(2, "big") + bytes([volume]), expect, reach)
 
     def ring_state(self, expect=OK):
         self.ask(self.sub(2), 6, b"", expect)

@@ -1,4 +1,4 @@
-/* A host in C: provisions a unit, rings it, lets the ring time out, stops one with the button, recovers the key, saves and reloads
+/* A host in C: provisions a unit, rings it, lets the ring time out, rings with a part and with all parts out of reach, stops one with the button, recovers the key, saves and reloads
  * the record, and reads its own frame. It plays the phone too, which makes the requests with the library's own primitives. */
 #include "tag.h"
 #include <stdio.h>
@@ -8,6 +8,9 @@
 static uint8_t record[TAG_RECORD_SIZE];
 static uint8_t answer[TAG_ANSWER_ROOM];
 static uint8_t nonce[TAG_NONCE_SIZE];
+
+/* The parts that can be reached, which a real host asks its radio for: both components at first. */
+static uint32_t reach = 0x03;
 
 static const uint8_t account_key[TAG_ACCOUNT_KEY_SIZE] = {0x04, 1, 2, 3, 4, 5, 6, 7, 8, 9, 10, 11, 12, 13, 14, 15};
 static const uint8_t identity[TAG_IDENTITY_KEY_SIZE] = {7, 7, 7, 7, 9, 9, 9, 9, 1, 2, 3, 4, 5, 6, 7, 8, 8, 7, 6, 5, 4, 3, 2, 1, 9, 9, 9, 9, 7, 7, 7, 7};
@@ -39,7 +42,7 @@ static uint64_t request(uint8_t id, const uint8_t *key, size_t key_bytes, const 
     expect("hmac", tag_hmac_sha256(key, key_bytes, covered, 11 + data_bytes, tag, sizeof tag));
     memcpy(write + 2, tag, 8);
     memcpy(write + 10, data, data_bytes);
-    return tag_write(record, sizeof record, write, 10 + data_bytes, answer, sizeof answer);
+    return tag_write(record, sizeof record, write, 10 + data_bytes, reach, answer, sizeof answer);
 }
 
 /* The recovery (1), ring (2) or protection (3) key: 8 bytes of a digest. */
@@ -122,7 +125,11 @@ int main(int count, char **words) {
     number = tag_elapsed(record, sizeof record, tenths, answer, sizeof answer);
     printf("%u tenths later: notice of %u bytes, status %u, the ring ended at tenth %u\n", (unsigned)tenths, (unsigned)expect("elapsed", number), answer[10],
            (unsigned)TAG_ENDED_AT(number));
+    reach = 0x02;
     ring(600);
+    reach = 0x00;
+    ring(50);
+    reach = 0x03;
     expect("button", tag_button(record, sizeof record, answer, sizeof answer));
     printf("button: status %u, %s\n", answer[10], record[TAG_SOUND_KIND_AT] ? "ringing" : "silent");
     recover();

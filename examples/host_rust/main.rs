@@ -1,19 +1,19 @@
-//! A host in Rust: provisions a unit, rings it, lets the ring time out, stops one with the button, recovers the key, saves and reloads
+//! A host in Rust: provisions a unit, rings it, lets the ring time out, rings with a part and with all parts out of reach, stops one with the button, recovers the key, saves and reloads
 //! the record, and reads its own frame. It plays the phone too, which makes the requests with the library's own primitives.
 use std::fs;
 
 const RECORD_SIZE: usize = 368;
 const ANSWER_ROOM: usize = 42;
-const IDENTITY_HELD_AT: usize = 119;
-const WAITING_HELD_AT: usize = 152;
-const SOUND_KIND_AT: usize = 185;
+const IDENTITY_HELD_AT: usize = 239;
+const WAITING_HELD_AT: usize = 272;
+const SOUND_KIND_AT: usize = 305;
 const PARTS_WITH_R_SIZE: usize = 24;
 
 // The declarations of include/tag.h: a slice passes as its pointer and its length.
 extern "C" {
     fn tag_new(record: *mut u8, n: u64, power: i32, components: u32, selectable: u32) -> u64;
     fn tag_read(record: *mut u8, n: u64, nonce: *const u8, m: u64, answer: *mut u8, room: u64) -> u64;
-    fn tag_write(record: *mut u8, n: u64, request: *const u8, m: u64, answer: *mut u8, room: u64) -> u64;
+    fn tag_write(record: *mut u8, n: u64, request: *const u8, m: u64, reach: u32, answer: *mut u8, room: u64) -> u64;
     fn tag_button(record: *mut u8, n: u64, answer: *mut u8, room: u64) -> u64;
     fn tag_elapsed(record: *mut u8, n: u64, tenths: u32, answer: *mut u8, room: u64) -> u64;
     fn tag_sleep(record: *const u8, n: u64) -> u64;
@@ -50,6 +50,8 @@ struct Host {
     record: [u8; RECORD_SIZE],
     answer: [u8; ANSWER_ROOM],
     nonce: u64,
+    /// The parts that can be reached, which a real host asks its radio for.
+    reach: u32,
 }
 
 impl Host {
@@ -73,7 +75,8 @@ impl Host {
         let mut tag = [0; 32];
         given(unsafe { tag_hmac_sha256(key.as_ptr(), key.len() as u64, covered.as_ptr(), covered.len() as u64, tag.as_mut_ptr(), 32) })?;
         let write = [&[id, size], &tag[..8], data].concat();
-        self.ask(|u, n, a, room| unsafe { tag_write(u, n, write.as_ptr(), write.len() as u64, a, room) })
+        let reach = self.reach;
+        self.ask(|u, n, a, room| unsafe { tag_write(u, n, write.as_ptr(), write.len() as u64, reach, a, room) })
     }
 
     fn ring(&mut self, tenths: u16) -> Result<(), u64> {
@@ -159,14 +162,18 @@ fn read_own_frame(host: &mut Host) -> Result<(), u64> {
 }
 
 fn session(path: &str) -> Result<(), u64> {
-    let mut host = Host { record: [0; RECORD_SIZE], answer: [0; ANSWER_ROOM], nonce: 0 };
+    let mut host = Host { record: [0; RECORD_SIZE], answer: [0; ANSWER_ROOM], nonce: 0, reach: 0x03 };
     provision(&mut host)?;
     host.ring(50)?;
     let tenths = host.complete(|u, n| unsafe { tag_sleep(u, n) })?.ended as u32;
     println!("the chip sleeps for {tenths} tenths, until time does something, and no further");
     let passed = host.ask(|u, n, a, room| unsafe { tag_elapsed(u, n, tenths, a, room) })?;
     println!("{tenths} tenths later: notice of {} bytes, status {}, the ring ended at tenth {}", passed.bytes, host.answer[10], passed.ended);
+    host.reach = 0x02;
     host.ring(600)?;
+    host.reach = 0x00;
+    host.ring(50)?;
+    host.reach = 0x03;
     host.ask(|u, n, a, room| unsafe { tag_button(u, n, a, room) })?;
     println!("button: status {}, {}", host.answer[10], if host.record[SOUND_KIND_AT] == 1 { "ringing" } else { "silent" });
     recover(&mut host)?;

@@ -7,7 +7,7 @@ use crate::tag::{self, NOT_WELL_FORMED, NO_ROOM, ROOM};
 pub enum Call {
     New(i32, u32, u32),
     Read(Vec<u8>),
-    Write(Vec<u8>),
+    Write(Vec<u8>, u32),
     Button,
     Elapsed(u32),
     Disconnect,
@@ -25,7 +25,7 @@ impl Call {
         match self {
             Call::New(..) => "new",
             Call::Read(_) => "read",
-            Call::Write(_) => "write",
+            Call::Write(..) => "write",
             Call::Button => "button",
             Call::Elapsed(_) => "elapsed",
             Call::Disconnect => "disconnect",
@@ -40,7 +40,7 @@ impl Call {
 
     /// Whether it takes answer bytes.
     pub fn answers(&self) -> bool {
-        matches!(self, Call::Read(_) | Call::Write(_) | Call::Button | Call::Elapsed(_) | Call::Frame)
+        matches!(self, Call::Read(_) | Call::Write(..) | Call::Button | Call::Elapsed(_) | Call::Frame)
     }
 }
 
@@ -81,7 +81,7 @@ pub fn run(call: &Call, record: &mut Vec<u8>, answer: &mut [u8]) -> u64 {
     let result = match call {
         Call::New(..) => unreachable!(),
         Call::Read(nonce) => number(tag::read(u, nonce, answer)),
-        Call::Write(data) => number(tag::write(u, data, answer)),
+        Call::Write(data, reach) => number(tag::write(u, data, *reach, answer)),
         Call::Button => number(tag::button(u, answer)),
         Call::Elapsed(tenths) => match tag::elapsed(u, *tenths, answer) {
             Ok(passed) => passed.written as u64 + ENDED_BASE * passed.at as u64,

@@ -89,6 +89,15 @@ impl<'a> Lines<'a> {
         }
         Ok(bytes)
     }
+
+    /// A single byte, two hex digits.
+    fn one_byte(&mut self, key: &str) -> Result<u8, Malformed> {
+        let bytes = self.hex(key)?;
+        match bytes[..] {
+            [byte] => Ok(byte),
+            _ => Err(Malformed(self.taken)),
+        }
+    }
 }
 
 /// A decimal number of one to ten digits without a leading zero; none needed here is longer.
@@ -196,7 +205,8 @@ fn event(
         }
         b"write" => {
             let data = lines.hex("data")?;
-            let result = tag::write(unit, &data, &mut answer);
+            let reach = lines.one_byte("reach")?;
+            let result = tag::write(unit, &data, reach as u32, &mut answer);
             answered(out, "write", result, &answer);
         }
         b"elapsed" => {

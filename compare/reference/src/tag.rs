@@ -382,13 +382,16 @@ pub fn read(unit: &mut Unit, nonce: &[u8], answer: &mut [u8]) -> Result<usize, u
 
 // ---------------------------------------------------------------- write
 
-/// Gives the count of bytes written.
-pub fn write(unit: &mut Unit, data: &[u8], answer: &mut [u8]) -> Result<usize, u8> {
+/// Gives the count of bytes written. The reach is the mask of the parts that can be reached now.
+pub fn write(unit: &mut Unit, data: &[u8], reach: u32, answer: &mut [u8]) -> Result<usize, u8> {
     if answer.len() < ROOM {
         return Err(NO_ROOM);
     }
     if !unit.well_formed() {
         return Err(NOT_WELL_FORMED);
+    }
+    if reach & !ringable(unit.components) != 0 {
+        return Err(OUT_OF_RANGE);
     }
     // Every write from here on spends the live nonce, whatever follows.
     let was_live = unit.live;
@@ -530,10 +533,19 @@ pub fn write(unit: &mut Unit, data: &[u8], answer: &mut [u8]) -> Result<usize, u
             if mask != 0 && (timeout < 1 || timeout > LONGEST_RING) {
                 return Err(INVALID_VALUE);
             }
-            if mask == 0 {
+            // What sounds now. A start or stop that reaches nothing fails and leaves it.
+            let (old_mask, old_left) = match unit.sound {
+                Sound::Silent => (0, 0),
+                Sound::Ringing { mask, left, .. } => (mask, left),
+            };
+            let failed = if mask == 0 { old_mask != 0 && old_mask & reach == 0 } else { mask & reach == 0 };
+            if failed {
+                ring_notice(&ring_key, &nonce, 1, old_mask, old_left)
+            } else if mask == 0 {
                 unit.make_silent();
                 ring_notice(&ring_key, &nonce, 4, 0, 0)
             } else {
+                let mask = mask & reach;
                 let volume = if unit.selectable == 1 { volume } else { 0 };
                 unit.sound = Sound::Ringing { mask, volume, left: timeout };
                 unit.ring_nonce = nonce;

@@ -5,7 +5,7 @@ use reference::boundary::Call;
 extern "C" {
     fn tag_new(record: *mut u8, n: u64, power: i32, components: u32, selectable: u32) -> u64;
     fn tag_read(record: *mut u8, n: u64, nonce: *const u8, m: u64, answer: *mut u8, room: u64) -> u64;
-    fn tag_write(record: *mut u8, n: u64, data: *const u8, m: u64, answer: *mut u8, room: u64) -> u64;
+    fn tag_write(record: *mut u8, n: u64, data: *const u8, m: u64, reach: u32, answer: *mut u8, room: u64) -> u64;
     fn tag_button(record: *mut u8, n: u64, answer: *mut u8, room: u64) -> u64;
     fn tag_elapsed(record: *mut u8, n: u64, tenths: u32, answer: *mut u8, room: u64) -> u64;
     fn tag_disconnect(record: *mut u8, n: u64) -> u64;
@@ -26,7 +26,7 @@ pub fn ours(c: &Call, record: &mut [u8], answer: &mut [u8]) -> u64 {
         match c {
             Call::New(p, k, s) => tag_new(r, n, *p, *k, *s),
             Call::Read(b) => tag_read(r, n, b.as_ptr(), b.len() as u64, a, room),
-            Call::Write(b) => tag_write(r, n, b.as_ptr(), b.len() as u64, a, room),
+            Call::Write(b, reach) => tag_write(r, n, b.as_ptr(), b.len() as u64, *reach, a, room),
             Call::Button => tag_button(r, n, a, room),
             Call::Elapsed(t) => tag_elapsed(r, n, *t, a, room),
             Call::Disconnect => tag_disconnect(r, n),

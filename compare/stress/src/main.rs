@@ -79,10 +79,21 @@ fn some_write(rng: &mut Random, record: &[u8]) -> Vec<u8> {
     w
 }
 
+/// A mask of parts in reach, now and then with a bit that the unit hasn't.
+fn some_reach(rng: &mut Random, unit: Option<&Unit>) -> u32 {
+    let parts = unit.map_or(7, |unit| tag::ringable(unit.components));
+    match rng.below(24) {
+        0 => 1 << rng.below(32),
+        1 => rng.next() as u32,
+        2..=12 => parts,
+        _ => parts & rng.next() as u32,
+    }
+}
+
 fn some_call(rng: &mut Random, record: &[u8]) -> Call {
     let unit = decode(record);
     if unit.as_ref().is_some_and(|u| u.live) && rng.one_in(2) {
-        return Call::Write(some_write(rng, record));
+        return Call::Write(some_write(rng, record), some_reach(rng, unit.as_ref()));
     }
     match rng.below(43) {
         0 if rng.one_in(12) => Call::New(rng.below(140) as i32 - 110, rng.below(5) as u32, rng.below(3) as u32),
@@ -91,7 +102,7 @@ fn some_call(rng: &mut Random, record: &[u8]) -> Call {
             // Of few values, so that nonces come back after any number of others.
             Call::Read(if rng.one_in(3) { rng.bytes(n) } else { vec![rng.below(60) as u8; n] })
         }
-        10..=23 => Call::Write(some_write(rng, record)),
+        10..=23 => Call::Write(some_write(rng, record), some_reach(rng, unit.as_ref())),
         24..=25 => Call::Button,
         26..=28 => Call::Elapsed([0, 1, 4, 5, 6, 29, 600, 6000, 10240, 4294967295, rng.below(20000) as u32][rng.below(11) as usize]),
         29 => Call::Pairing(rng.below(3) as u32),

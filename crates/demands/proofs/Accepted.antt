@@ -8,6 +8,7 @@ use mathlib.Core.List.{List, [], _∷_, _++_}
 use mathlib.Core.Logic.{_⊎_, inl, inr}
 use mathlib.Core.Option.{some}
 use native.Mathlib.Omega.{arith}
+use lib.Bits.{bitAnd}
 use lib.Dec.{eqb, ltb}
 use lib.ListN.{length, getD, drop, length-append, length-drop}
 use lib.Seq.{drop-at, take-append-le, drop-append-le}
@@ -28,18 +29,20 @@ use Rattle.unit.specs.Outcome.{giving}
 use Rattle.unit.proofs.Lines.{lines, held-count}
 use Rattle.authentication.specs.Judgement.{accepts, tagged, usedKey, signedByOwner}
 use Rattle.provisioning.specs.Provisioning.{ownedBy, awaiting, cleared, readParameters, readState, setKey, mayReplace, clearKey, recoverKey}
-use Rattle.ringing.specs.Ringing.{skips, ring, rung, readSound}
+use Rattle.ringing.specs.declared.sounding.Decision.{Decision}
+use Rattle.ringing.specs.Ringing.{skips, heldVolume, askedTimeout, ringDecision, ring, rung, readSound}
 use Rattle.ringing.specs.Protecting.{protect, unprotect}
 use Rattle.requests.specs.Write.{byId, needsKey}
 use Rattle.nonces.specs.Nonces.{issuedNonces, nonceFits, withIssued}
 use Rattle.nonces.proofs.Lines.{issued-count}
 use Rattle.tag.specs.Own.{issuing}
 use Rattle.tag.specs.Calls.{read, own, guarded, call, Act, calls, act}
-use Rattle.demands.specs.History.{step, writes}
+use Rattle.demands.specs.History.{step, sends}
 use Rattle.demands.specs.Spelled.{keyAtPlace, nonceAtPlace, OwnedWith, NonceSpent, OnlySpends}
-use Rattle.demands.specs.Accepted.{Serves, Open, sent, answer, First, ownerBit, standing, OwnerKnown, Awaits, Cleared, startNotice, stopNotice, RingLegal, ringBytes, Rings, Stopped, Protects, Issued, Accepted}
+use Rattle.demands.specs.Accepted.{Serves, Open, sent, answer, First, ownerBit, standing, OwnerKnown, Awaits, Cleared, startNotice, stopNotice, failNotice, RingLegal, ringBytes, RingTag, signed as signedTag, skipped, NoneReached, Reached, Stoppable, silent, partReached, Rings, Stopped, Protects, Issued, Accepted}
 use Rattle.demands.proofs.RecordLines.{key-at, nonce-at, among-found}
 use Rattle.demands.proofs.Spelling.{parameters-are, timeout-is, meant, ring-legal, stop-legal, owner-at, claimed-owner, claimed-count, claimed-keys, owner-bit, standing-is, sound-state}
+use Rattle.demands.proofs.MaskBits.{reached-is, none-reached, part-reached}
 use Rattle.demands.proofs.Judging.{opened, length-requestTag, length-keyProof, requestOf, judged-as, own-tag}
 
 -- an act whose outcome is known is served with what that outcome gives
@@ -106,12 +109,12 @@ unfolding signedByOwner
 owner-tagged u id size key additional e = rw (e, own-tag key (u .nonces .newest) id size additional)
 
 -- Where the size is known, a write that a key signed comes to its judgement
-signed-as : (u : TagUnit) (room id size : ℕ) (key additional : List ℕ) {after : TagUnit} {answer : List ℕ} {Left : TagUnit → Type 0}
-    → 8 + length additional ≡ size → Open u room → sizeLegal id size ≡ true → (ltb id needsKey || u .identity .held) ≡ true
-    → byId (spent u) (asked u id size key additional) ≡ accepts after answer → Left after
-    → Serves (writes (sent u id key additional) room) u answer Left
+signed-as : (u : TagUnit) (reach room id size : ℕ) (key additional : List ℕ) {after : TagUnit} {answer : List ℕ} {Left : TagUnit → Type 0}
+    → 8 + length additional ≡ size → Open u reach room → sizeLegal id size ≡ true → (ltb id needsKey || u .identity .held) ≡ true
+    → byId (spent u) (asked u id size key additional) reach ≡ accepts after answer → Left after
+    → Serves (sends (sent u id key additional) reach room) u answer Left
 unfolding requestTag
-signed-as u room id size key additional sized ready legal there judgement left =
+signed-as u reach room id size key additional sized ready legal there judgement left =
     rw sized
     (serves
     (judged-as id size (asked u id size key additional .tag) additional (length-requestTag key (u .nonces .newest) id size additional)
@@ -122,7 +125,7 @@ signed-as u room id size key additional sized ready legal there judgement left =
 spends : (u v : TagUnit) → v .nonces ≡ spent u .nonces → NonceSpent u v
 spends u v e = record { count = rw e; newest = rw e; earlier = rw e; dead = rw e }
 
-only-spends : (u : TagUnit) → OnlySpends u (spent u)
+pub only-spends : (u : TagUnit) → OnlySpends u (spent u)
 only-spends u = record { nonceSpent = spends u _ refl; rest = (refl, refl, tt, refl, refl, refl, refl, refl, refl, refl, refl, refl, refl) }
 
 owner-known : (u : TagUnit) → wellFormed u ≡ true → (p : ℕ) → p < u .accounts .count
@@ -188,114 +191,164 @@ consenting consent pairing (inr on) = or-right (ltb 0 consent) on
 proven-sized : (C proof : List ℕ) → length C ≡ 32 → length proof ≡ 8 → 8 + length (C ++ proof) ≡ 48
 proven-sized C proof n p = omega (arith, length-append C proof)
 
-few : {u : TagUnit} {room : ℕ} → Open u room → u .settings .components ≤ 3
+few : {u : TagUnit} {reach room : ℕ} → Open u reach room → u .settings .components ≤ 3
 few {u} ready = lines u (ready .formed) .settings .components
 
--- A ring and a stop that pass, with whichever tag
-abbrev PassesGuards : TagUnit → List ℕ → List ℕ → Type 0
-PassesGuards u mark a = skips (u .protection) || tagged (ringKey (u .identity .bytes)) (u .nonces .newest) (requestOf 0x05 12 mark a) ≡ true
+-- A 0x05 with a tag that passes comes to its judgement
+tag-eight : {u : TagUnit} {a tag : List ℕ} → RingTag u a tag → length tag ≡ 8
+unfolding requestTag derivedKey
+tag-eight {u} {a} signedTag = length-requestTag (ringKey (u .identity .bytes)) (u .nonces .newest) 0x05 12 a
+tag-eight (skipped skip eight) = eight
 
-ring-judged : (u : TagUnit) (mark : List ℕ) (asked mask timeout volume : ℕ) → u .settings .components ≤ 3
-    → RingLegal (u .settings .components) asked mask timeout volume → PassesGuards u mark (ringBytes asked timeout volume)
-    → ring (spent u) (requestOf 0x05 12 mark (ringBytes asked timeout volume))
-    ≡ accepts (withSound (Sound.Ringing mask (cond (eqb (u .settings .selectable) 0) 0 volume) timeout) (u .nonces .newest) (spent u))
-    (startNotice u (u .nonces .newest) 0 mask timeout)
-unfolding ring rung ringNotice signed answerTag derivedKey bigEndian
-ring-judged u mark asked mask timeout volume low legal passes =
+tag-passes : {u : TagUnit} {a tag : List ℕ} → RingTag u a tag
+    → skips (u .protection) || tagged (ringKey (u .identity .bytes)) (u .nonces .newest) (requestOf 0x05 12 tag a) ≡ true
+unfolding requestTag derivedKey
+tag-passes {u} {a} signedTag = or-right (skips (u .protection)) (own-tag (ringKey (u .identity .bytes)) (u .nonces .newest) 0x05 12 a)
+tag-passes (skipped skip eight) = rw skip
+
+module _ (u : TagUnit) (reach room : ℕ) (a tag : List ℕ) (four : 8 + length a ≡ 12) (ready : Open u reach room) (held : u .identity .held ≡ true)
+    (passes : RingTag u a tag) where
+  ring-serves : {v : TagUnit} {answer : List ℕ} {Left : TagUnit → Type 0} → ring (spent u) (requestOf 0x05 12 tag a) reach ≡ accepts v answer → Left v
+      → Serves (sends (0x05 ∷ 12 ∷ tag ++ a) reach room) u answer Left
+  unfolding byId sizeLegal oneOf legalSizes
+  ring-serves judgement left = serves (judged-as 0x05 12 tag a (tag-eight passes) four ready refl held judgement) left
+
+-- to the ring decision, where its values are legal
+ring-judged : (u : TagUnit) (tag : List ℕ) (reach asked mask timeout volume : ℕ) → u .settings .components ≤ 3
+    → RingLegal (u .settings .components) asked mask timeout volume → RingTag u (ringBytes asked timeout volume) tag
+    → ring (spent u) (requestOf 0x05 12 tag (ringBytes asked timeout volume)) reach
+    ≡ rung (ringDecision (u .sound) mask reach) (spent u) (cond (eqb (u .settings .selectable) 0) 0 volume) timeout
+unfolding ring
+ring-judged u tag reach asked mask timeout volume low legal passes =
     let m = meant (u .settings) asked mask ((timeout / 256) ∷ (timeout % 256) ∷ volume ∷ []) low (legal .means) in
-    let ringing : eqb mask 0 ≡ false = ne-eqb mask 0 (λ e. omega (arith, legal .some)) in
-    let high : timeout / 256 % 256 ≡ timeout / 256 = omega (arith, legal .most) in
-    rw (passes, ring-legal (u .settings) asked mask timeout volume low legal, m .is, timeout-is asked timeout volume, ringing, high)
+    rw (tag-passes passes, ring-legal (u .settings) asked mask timeout volume low legal, m .is, timeout-is asked timeout volume)
 
-stop-judged : (u : TagUnit) (mark : List ℕ) (high low volume : ℕ) → u .settings .components ≤ 3 → volume ≤ 3
-    → PassesGuards u mark (0 ∷ high ∷ low ∷ volume ∷ [])
-    → ring (spent u) (requestOf 0x05 12 mark (0 ∷ high ∷ low ∷ volume ∷ [])) ≡ accepts (silenced (spent u)) (stopNotice u (u .nonces .newest) 4)
-unfolding ring rung ringNotice signed answerTag derivedKey bigEndian
-stop-judged u mark high low volume few quiet passes = rw (passes, stop-legal (u .settings) high low volume few quiet)
+stop-judged : (u : TagUnit) (tag : List ℕ) (reach high low volume : ℕ) → u .settings .components ≤ 3 → volume ≤ 3
+    → RingTag u (0 ∷ high ∷ low ∷ volume ∷ []) tag → (d : Decision) → ringDecision (u .sound) 0 reach ≡ d
+    → ring (spent u) (requestOf 0x05 12 tag (0 ∷ high ∷ low ∷ volume ∷ [])) reach
+    ≡ rung d (spent u) (heldVolume (u .settings) (0 ∷ high ∷ low ∷ volume ∷ [])) (askedTimeout (0 ∷ high ∷ low ∷ volume ∷ []))
+unfolding ring
+stop-judged u tag reach high low volume few quiet passes d is = rw (tag-passes passes, stop-legal (u .settings) high low volume few quiet, is)
+
+-- The decision, by the parts that are in reach
+module _ (s : Sound) (mask reach : ℕ) (some : 0 < mask) where
+  start-decided : (parts : ℕ) → Reached mask reach parts → ringDecision s mask reach ≡ Decision.Started parts
+  unfolding ringDecision
+  start-decided parts r =
+      rw (ne-eqb mask 0 (λ e. omega arith), reached-is mask reach (r .partsAre), ne-eqb parts 0 (λ e. omega (arith, r .some)))
+
+  start-failing : NoneReached mask reach → ringDecision s mask reach ≡ Decision.Failed
+  unfolding ringDecision
+  start-failing none = rw (ne-eqb mask 0 (λ e. omega arith), none-reached mask reach none)
+
+stop-decided : {s : Sound} (reach : ℕ) → Stoppable reach s → ringDecision s 0 reach ≡ Decision.Stopped
+unfolding ringDecision
+stop-decided reach silent = refl
+stop-decided reach (partReached {mask} i m r) = rw (ne-eqb (bitAnd mask reach) 0 (part-reached mask reach i m r))
+
+stop-failing : (mask volume left reach : ℕ) → NoneReached mask reach → ringDecision (Sound.Ringing mask volume left) 0 reach ≡ Decision.Failed
+unfolding ringDecision
+stop-failing mask volume left reach none = rw (none-reached mask reach none)
+
+-- What each decision gives
+started-gives : (u : TagUnit) (parts volume timeout : ℕ) → timeout ≤ 6000
+    → rung (Decision.Started parts) (spent u) volume timeout
+    ≡ accepts (withSound (Sound.Ringing parts volume timeout) (u .nonces .newest) (spent u)) (startNotice u (u .nonces .newest) 0 parts timeout)
+unfolding rung ringNotice signed answerTag derivedKey bigEndian
+started-gives u parts volume timeout most = let high : timeout / 256 % 256 ≡ timeout / 256 = omega arith in rw high
+
+stopped-gives : (u : TagUnit) (volume left : ℕ) → rung Decision.Stopped (spent u) volume left ≡ accepts (silenced (spent u)) (stopNotice u (u .nonces .newest) 4)
+unfolding rung ringNotice signed answerTag derivedKey bigEndian
+stopped-gives u volume left = refl
+
+failed-gives : (u : TagUnit) (volume left : ℕ) → wellFormed u ≡ true
+    → rung Decision.Failed (spent u) volume left ≡ accepts (spent u) (failNotice u (u .nonces .newest))
+unfolding rung signed answerTag derivedKey
+failed-gives u volume left right = rw (sound-state u (lines u right))
 
 -- 0x01 and a first 0x02, for whatever is so of the unit that they leave
-pub serves-state : (u : TagUnit) (room p : ℕ) {Left : TagUnit → Type 0} → Open u room → First u 0x01 p
+pub serves-state : (u : TagUnit) (reach room p : ℕ) {Left : TagUnit → Type 0} → Open u reach room → First u 0x01 p
     → Left (withAccounts (ownedBy (keyAtPlace u p) (u .accounts)) (spent u))
-    → Serves (writes (sent u 0x01 (keyAtPlace u p) []) room) u
+    → Serves (sends (sent u 0x01 (keyAtPlace u p) []) reach room) u
     (answer u 0x01 (keyAtPlace u p) ((cond (u .identity .held) 0x01 0x00 + ownerBit (u .accounts .owner) p) ∷ standing u))
     Left
 unfolding byId sizeLegal oneOf legalSizes readState signed answerTag
-serves-state u room p ready first left =
+serves-state u reach room p ready first left =
     let l = lines u (ready .formed) in
-    signed-as u room 0x01 8 (keyAtPlace u p) [] refl ready refl refl
+    signed-as u reach room 0x01 8 (keyAtPlace u p) [] refl ready refl refl
     (rw (first-tagged u 0x01 p first, owner-bit u l p (first .0) (u .accounts .owner) refl, standing-is u l))
     left
 
-pub serves-key : (u : TagUnit) (room : ℕ) (key C : List ℕ) {Left : TagUnit → Type 0} → Open u room → OwnedWith u key → u .identity .held ≡ false
+pub serves-key : (u : TagUnit) (reach room : ℕ) (key C : List ℕ) {Left : TagUnit → Type 0} → Open u reach room → OwnedWith u key → u .identity .held ≡ false
     → length C ≡ 32 → Left (awaiting (decryptedKey key C) (spent u))
-    → Serves (writes (sent u 0x02 key C) room) u (answer u 0x02 key []) Left
+    → Serves (sends (sent u 0x02 key C) reach room) u (answer u 0x02 key []) Left
 unfolding byId sizeLegal oneOf legalSizes setKey mayReplace signed answerTag
-serves-key u room key C ready owner none n left =
-    signed-as u room 0x02 40 key C (omega arith) ready refl refl
+serves-key u reach room key C ready owner none n left =
+    signed-as u reach room 0x02 40 key C (omega arith) ready refl refl
     (rw (owner-tagged u 0x02 40 key C (owner-at u key (ready .formed) owner), none))
     left
 
 pub accepted : Accepted
-unfolding byId sizeLegal oneOf legalSizes readParameters setKey mayReplace clearKey recoverKey ring rung readSound protect unprotect requestTag keyProof derivedKey signed answerTag ringNotice bigEndian encryptedKey
+unfolding byId sizeLegal oneOf legalSizes readParameters setKey mayReplace clearKey recoverKey readSound protect unprotect requestTag keyProof derivedKey signed answerTag bigEndian encryptedKey
 accepted =
     record {
       nonceRead = λ u room lent right fits long other.
           serves (reads u room lent right fits long (not-held u lent other)) (issued-so lent u);
-      parametersRead = λ u room p ready first.
-          signed-as u room 0x00 8 (keyAtPlace u p) [] refl ready refl refl
+      parametersRead = λ u reach room p ready first.
+          signed-as u reach room 0x00 8 (keyAtPlace u p) [] refl ready refl refl
           (rw (first-tagged u 0x00 p first, parameters-are u)) (only-spends u);
-      stateRead = λ u room p ready first. serves-state u room p ready first (owner-known u (ready .formed) p (first .0));
-      keySet = λ u room key C ready owner none n. serves-key u room key C ready owner none n (awaits u key C);
-      keyReplaced = λ u room key C ready owner held n.
+      stateRead = λ u reach room p ready first. serves-state u reach room p ready first (owner-known u (ready .formed) p (first .0));
+      keySet = λ u reach room key C ready owner none n. serves-key u reach room key C ready owner none n (awaits u key C);
+      keyReplaced = λ u reach room key C ready owner held n.
           let proof = keyProof (u .identity .bytes) (u .nonces .newest) in
           let sized = proven-sized C proof n (length-keyProof (u .identity .bytes) (u .nonces .newest)) in
-          signed-as u room 0x02 48 key (C ++ proof) sized ready refl refl
+          signed-as u reach room 0x02 48 key (C ++ proof) sized ready refl refl
           (rw (owner-tagged u 0x02 48 key (C ++ proof) (owner-at u key (ready .formed) owner), held, drop-at C proof 32 n, same-refl proof))
           (awaits-first u key C proof n);
-      keyCleared = λ u room key ready owner held.
+      keyCleared = λ u reach room key ready owner held.
           let proof = keyProof (u .identity .bytes) (u .nonces .newest) in
           let sized = ap (λ (n : ℕ). 8 + n) (length-keyProof (u .identity .bytes) (u .nonces .newest)) in
-          signed-as u room 0x03 16 key proof sized ready refl held
+          signed-as u reach room 0x03 16 key proof sized ready refl held
           (rw (owner-tagged u 0x03 16 key proof (owner-at u key (ready .formed) owner), same-refl proof))
           (clears u);
-      keyRecovered = λ u room key ready owner held consent.
+      keyRecovered = λ u reach room key ready owner held consent.
           let by = recoveryKey (u .identity .bytes) in
-          signed-as u room 0x04 8 by [] refl ready refl held
+          signed-as u reach room 0x04 8 by [] refl ready refl held
           (rw (owner-at u key (ready .formed) owner, own-tag by (u .nonces .newest) 0x04 8 [], consenting (u .consent) (u .pairing) consent))
           (only-spends u);
-      rings = λ u room asked mask timeout volume ready held legal.
+      rings = λ u reach room asked mask parts timeout volume tag ready held legal passes parts-reached.
+          ring-serves u reach room (ringBytes asked timeout volume) tag refl ready held passes
+          (ring-judged u tag reach asked mask timeout volume (few ready) legal passes
+          ∙ rw (start-decided (u .sound) mask reach (legal .some) parts parts-reached) (started-gives u parts _ timeout (legal .most)))
+          (rings-as parts timeout volume u);
+      startFails = λ u reach room asked mask timeout volume tag ready held legal passes none.
+          ring-serves u reach room (ringBytes asked timeout volume) tag refl ready held passes
+          (ring-judged u tag reach asked mask timeout volume (few ready) legal passes
+          ∙ rw (start-failing (u .sound) mask reach (legal .some) none) (failed-gives u _ timeout (ready .formed)))
+          (only-spends u);
+      stops = λ u reach room high low volume tag ready held quiet passes stoppable.
+          ring-serves u reach room (0 ∷ high ∷ low ∷ volume ∷ []) tag refl ready held passes
+          (stop-judged u tag reach high low volume (few ready) quiet passes _ (stop-decided reach stoppable) ∙ stopped-gives u _ _) (stopped u);
+      stopFails = λ u reach room high low volume mask loudness left tag ready held quiet passes ringing none.
+          ring-serves u reach room (0 ∷ high ∷ low ∷ volume ∷ []) tag refl ready held passes
+          (stop-judged u tag reach high low volume (few ready) quiet passes _ (rw ringing (stop-failing mask loudness left reach none))
+          ∙ failed-gives u _ _ (ready .formed))
+          (only-spends u);
+      soundRead = λ u reach room ready held.
           let key = ringKey (u .identity .bytes) in
-          let passes = or-right (skips (u .protection)) (own-tag key (u .nonces .newest) 0x05 12 (ringBytes asked timeout volume)) in
-          signed-as u room 0x05 12 key (ringBytes asked timeout volume) refl ready refl held
-          (ring-judged u _ asked mask timeout volume (few ready) legal passes) (rings-as mask timeout volume u);
-      stops = λ u room high low volume ready held quiet.
-          let key = ringKey (u .identity .bytes) in
-          let passes = or-right (skips (u .protection)) (own-tag key (u .nonces .newest) 0x05 12 (0 ∷ high ∷ low ∷ volume ∷ [])) in
-          signed-as u room 0x05 12 key (0 ∷ high ∷ low ∷ volume ∷ []) refl ready refl held
-          (stop-judged u _ high low volume (few ready) quiet passes) (stopped u);
-      skipRings = λ u room asked mask timeout volume tag ready held skip eight legal.
-          let a = ringBytes asked timeout volume in
-          let judgement = ring-judged u tag asked mask timeout volume (few ready) legal (rw skip) in
-          serves (judged-as 0x05 12 tag a eight refl ready refl held judgement) (rings-as mask timeout volume u);
-      skipStops = λ u room high low volume tag ready held skip eight quiet.
-          let a : List ℕ = 0 ∷ high ∷ low ∷ volume ∷ [] in
-          let judgement = stop-judged u tag high low volume (few ready) quiet (rw skip) in
-          serves (judged-as 0x05 12 tag a eight refl ready refl held judgement) (stopped u);
-      soundRead = λ u room ready held.
-          let key = ringKey (u .identity .bytes) in
-          signed-as u room 0x06 8 key [] refl ready refl held
+          signed-as u reach room 0x06 8 key [] refl ready refl held
           (rw (own-tag key (u .nonces .newest) 0x06 8 [], sound-state u (lines u (ready .formed)))) (only-spends u);
-      protects = λ u room ready held.
+      protects = λ u reach room ready held.
           let key = protectionKey (u .identity .bytes) in
-          signed-as u room 0x07 8 key [] refl ready refl held (rw (own-tag key (u .nonces .newest) 0x07 8 [])) (protects-as (Protection.On false) u);
-      protectsFlagged = λ u room flag ready held low.
+          signed-as u reach room 0x07 8 key [] refl ready refl held (rw (own-tag key (u .nonces .newest) 0x07 8 [])) (protects-as (Protection.On false) u);
+      protectsFlagged = λ u reach room flag ready held low.
           let key = protectionKey (u .identity .bytes) in
-          signed-as u room 0x07 9 key (flag ∷ []) refl ready refl held
+          signed-as u reach room 0x07 9 key (flag ∷ []) refl ready refl held
           (rw (own-tag key (u .nonces .newest) 0x07 9 (flag ∷ []), le-leb flag 1 (omega arith))) (protects-as (Protection.On (eqb flag 1)) u);
-      unprotects = λ u room ready held.
+      unprotects = λ u reach room ready held.
           let key = protectionKey (u .identity .bytes) in
           let proof = keyProof (u .identity .bytes) (u .nonces .newest) in
           let sized = ap (λ (n : ℕ). 8 + n) (length-keyProof (u .identity .bytes) (u .nonces .newest)) in
-          signed-as u room 0x08 16 key proof sized ready refl held
+          signed-as u reach room 0x08 16 key proof sized ready refl held
           (rw (own-tag key (u .nonces .newest) 0x08 16 proof, same-refl proof)) (protects-as Protection.Off u);
     }

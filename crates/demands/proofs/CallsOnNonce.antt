@@ -1,4 +1,4 @@
--- What a call does to the nonces, for all kinds: a successful read issues its own, a write that passes 6 and 2 spends the newest, and every
+-- What a call does to the nonces, for all kinds: a successful read issues its own, a write that passes 6, 2 and 1 spends the newest, and every
 -- other call, refused ones too, leaves them as they are.
 use Prim.Native.Nat.{ℕ, _≤_}
 use mathlib.Core.Path.{_≡_, refl, ap, _∙_}
@@ -6,23 +6,27 @@ use mathlib.Core.Bool.{true, false}
 use mathlib.Core.List.{List, _∷_}
 use mathlib.Core.Logic.{_⊎_, inl, inr}
 use native.Mathlib.Omega.{arith}
-use Rattle.laws.proofs.Flags.{true-or-false}
+use Rattle.laws.proofs.Flags.{true-or-false, clash}
 use Rattle.wire.specs.Signing.{version}
 use Rattle.wire.specs.Shape.{Request}
 use Rattle.unit.specs.declared.TagUnit.{TagUnit}
 use Rattle.sizes.specs.Sizes.{answerRoom}
+use Rattle.unit.specs.Ringable.{inside}
 use Rattle.unit.specs.Change.{withNonces}
 use Rattle.unit.specs.WellFormed.{wellFormed}
 use Rattle.unit.specs.Outcome.{Outcome, giving, refusing}
 use Rattle.authentication.specs.Judgement.{accepts}
 use Rattle.provisioning.specs.Provisioning.{cleared}
+use Rattle.requests.specs.Write.{written}
 use Rattle.nonces.specs.Nonces.{nonceFits, withIssued, spentNonces}
 use Rattle.tag.specs.Own.{issuing}
 use Rattle.tag.specs.Calls.{Written, read, write, accountKey, disconnect, own, Act, calls}
+use Rattle.demands.specs.Spelled.{NoBitOutside}
 use Rattle.demands.specs.History.{step}
 use Rattle.demands.specs.Nonces.{Succeeds, PassesGuards, passes, Issues, issues}
 use Rattle.demands.proofs.Guards.{roomFor, ownOf, met, Met, barred, passed, not-both}
-use Rattle.demands.proofs.WritesOnKeys.{Did, set, clear, recovered, other, Ended, turned, served, ends-written}
+use Rattle.demands.proofs.WritesOnKeys.{Did, set, clear, recovered, other, Ended, unreached, turned, served, ends-written}
+use Rattle.demands.proofs.MaskBits.{inside-bits, bits-inside}
 use Rattle.demands.proofs.OtherCalls.{kind, Sorted, aRead, aWrite, aKey, aDisconnect, aside, sorted, Keeping, same, more, keeps, Disconnecting, nothingIn, keyIn, disconnects}
 
 pub data Noncing : Act → TagUnit → Type 0 where
@@ -37,13 +41,13 @@ issues-succeeds : {c : Act} {u : TagUnit} → Issues c u → Succeeds c u
 issues-succeeds (issues s) = s
 
 passes-guards : {c : Act} {u : TagUnit} → PassesGuards c u → (answerRoom ≤ roomFor c) × (wellFormed u ≡ true)
-passes-guards (passes fits formed) = (fits, formed)
+passes-guards (passes fits formed within) = (fits, formed)
 
 pub issues-kind : {c : Act} {u : TagUnit} → Issues c u → kind c ≡ 0
 issues-kind (issues s) = refl
 
 passes-kind : {c : Act} {u : TagUnit} → PassesGuards c u → kind c ≡ 1
-passes-kind (passes fits formed) = refl
+passes-kind (passes fits formed within) = refl
 
 -- A call that is barred leaves the nonce
 barred-keeps : (c : Act) (u : TagUnit) (n : ℕ) → step c u ≡ refusing n u → (answerRoom ≤ roomFor c → wellFormed u ≡ true → ⊥) → Noncing c u
@@ -57,9 +61,17 @@ did-nonce (clear e) = refl
 did-nonce (recovered key e o) = refl
 did-nonce (other k a) = a .nonce
 
-written-spends : {u : TagUnit} {w : List ℕ} {o : Outcome} → Ended u w o → o .unit .nonces ≡ spentNonces (u .nonces)
-written-spends (turned n) = refl
-written-spends (served s l did) = did-nonce did
+written-spends : {u : TagUnit} {w : Written} {o : Outcome} → inside (w .reach) (u .settings .components) ≡ true → Ended u w o → o .unit .nonces ≡ spentNonces (u .nonces)
+written-spends within (unreached n out) = absurd (clash within out)
+written-spends within (turned n) = refl
+written-spends within (served s l did) = did-nonce did
+
+written-keeps : (u : TagUnit) (w : List ℕ) (reach : ℕ) → inside reach (u .settings .components) ≡ false → written u w reach ≡ refusing 1 u
+unfolding written
+written-keeps u w reach out = rw out
+
+passes-within : {w : Written} {room : ℕ} {u : TagUnit} → PassesGuards (calls (write w) room) u → NoBitOutside (u .settings .components) (w .reach)
+passes-within (passes fits formed within) = within
 
 kept-nonce : {key : List ℕ} {u : TagUnit} {o : Outcome} → Keeping key u o → o .unit .nonces ≡ u .nonces
 kept-nonce same = refl
@@ -103,7 +115,17 @@ writing w room u = go (met (calls (write w) room) u)
   where
     go : Met (calls (write w) room) u → Noncing (calls (write w) room) u
     go (barred n e bars) = barred-keeps (calls (write w) room) u n e bars
-    go (passed fits formed e) = spend (passes fits formed) (ap (λ (o : Outcome). o .unit .nonces) e ∙ written-spends (ends-written u (w .bytes)))
+    go (passed fits formed e) = by-reach (true-or-false (inside (w .reach) (u .settings .components)))
+      where
+        by-reach : (inside (w .reach) (u .settings .components) ≡ true) ⊎ (inside (w .reach) (u .settings .components) ≡ false) → Noncing (calls (write w) room) u
+        by-reach (inl r) =
+            spend (passes fits formed (inside-bits (w .reach) (u .settings .components) r))
+            (ap (λ (o : Outcome). o .unit .nonces) e ∙ written-spends {w = w} r (ends-written u w))
+        by-reach (inr r) =
+            let refusal : step (calls (write w) room) u ≡ refusing 1 u = e ∙ written-keeps u (w .bytes) (w .reach) r in
+            keep (λ i. not-both (calls (write w) room) u refusal (issues-succeeds i))
+            (λ p. clash (bits-inside (w .reach) (u .settings .components) (passes-within p)) r)
+            (ap (λ (o : Outcome). o .unit .nonces) refusal)
 
 by-kind : {c : Act} → Sorted c → (u : TagUnit) → Noncing c u
 unfolding own

@@ -1,8 +1,8 @@
 -- What each call does to sound, consent and notices on a well-formed unit: a press while silent, a press while ringing, the accepted 0x05 and
 -- 0x03, and a disconnect that brings a key in do what they are for; every other call, refused ones too, leaves sound and consent and gives no
--- ring notice. And what time does, with room and without.
+-- ring notice; so does an accepted 0x05 that failed, but for its notice. And what time does, with room and without.
 use Prim.Native.Nat.{ℕ, _+_, _≤_}
-use mathlib.Core.Path.{_≡_, refl, ap, _∙_}
+use mathlib.Core.Path.{_≡_, refl, sym, ap, _∙_}
 use mathlib.Core.Bool.{Bool, true, false, cond, not, _&&_}
 use mathlib.Core.List.{List, [], _∷_}
 use native.Mathlib.Omega.{arith}
@@ -26,11 +26,12 @@ use Rattle.nonces.specs.Nonces.{nonceFits}
 use Rattle.tag.specs.Own.{issuing, pressed, showing, lending, charged, keeping, broughtIn as bringing, disconnected}
 use Rattle.tag.specs.Calls.{Written, Call, read, write, button, pairing, battery, accountKey, disconnect, identifier, frame, own, Act, calls, waits}
 use Rattle.demands.specs.History.{step}
-use Rattle.demands.specs.Time.{noticed}
-use Rattle.demands.specs.Among.{Accepts, accepts, Presses, presses, BringsIn, bringsIn, tenthsIn}
+use Rattle.demands.specs.Time.{at, noticed}
+use Rattle.demands.specs.Among.{Accepts, accepts, Notifies, notifies, Presses, presses, BringsIn, bringsIn, tenthsIn}
+use Rattle.demands.specs.RingLasts.{unfailed}
 use Rattle.demands.proofs.Choices.{tested}
 use Rattle.demands.proofs.Guards.{roomFor, Met, barred, passed, met}
-use Rattle.demands.proofs.WritesOnSound.{Left, Effect, apart, rings, stops, clears, Written as WriteEnd, turned, served, written-so}
+use Rattle.demands.proofs.WritesOnSound.{Left, Effect, apart, rings, stops, fails, clears, Ending, unreached, turned, served, written-so}
 
 -- sound and consent left, and no ring notice
 pub record Calm (u : TagUnit) (o : Outcome) : Type 0 where
@@ -41,7 +42,8 @@ pub data Does (a : Act) (u : TagUnit) : Type 0 where
   calmly : Calm u (step a u) → Does a u
   pressedSilent : Presses a → u .sound ≡ Sound.Silent → Does a u
   pressedRinging : Presses a → step a u .unit .consent ≡ u .consent → Does a u
-  rung : Accepts 0x05 a u → step a u .unit .consent ≡ u .consent → Does a u
+  rung : Accepts 0x05 a u → (Notifies 1 a u → ⊥) → step a u .unit .consent ≡ u .consent → Does a u
+  failed : Left u (step a u .unit) → ((t : ℕ) → unfailed (at t (noticed (step a u .result))) ≡ []) → Does a u
   cleared : Accepts 0x03 a u → step a u .unit .consent ≡ 0 → Does a u
   broughtIn : BringsIn a u → step a u .unit .consent ≡ u .consent → Does a u
 
@@ -88,11 +90,23 @@ press-does room u fits e = go (u .sound) refl e
 other-id : (answer : List ℕ) (id : ℕ) → getD answer 0 0 ≡ id → (id ≡ 0x05 → ⊥) → noticed (gives answer) ≡ []
 other-id answer id e other = rw (e, ne-eqb id ringId other)
 
+-- a notice of a failure is not among those that did not fail
+not-heard : (answer : List ℕ) → getD answer 0 0 ≡ 0x05 → getD answer 10 0 ≡ 1 → (t : ℕ) → unfailed (at t (noticed (gives answer))) ≡ []
+not-heard [] id status t = refl
+not-heard (b ∷ bs) id status t = rw (id, status)
+
+-- one of another status did not fail
+not-failed : {a : Act} {u : TagUnit} {answer : List ℕ} (status : ℕ) → step a u .result ≡ gives answer → getD answer 10 0 ≡ status → (status ≡ 1 → ⊥)
+    → Notifies 1 a u → ⊥
+not-failed {answer = answer} status given is other (notifies {answer = again} id gave failure) =
+    let same : answer ≡ again = cc in
+    other (sym is ∙ rw same failure)
+
 module _ (w : Written) (room : ℕ) (u : TagUnit) where
   abbrev this : Act
   this = calls (write w) room
 
-  effect-does : {v : TagUnit} {answer : List ℕ} → step this u ≡ giving answer v → Effect (spent u) (parsed (w .bytes)) v answer → Does this u
+  effect-does : {v : TagUnit} {answer : List ℕ} → step this u ≡ giving answer v → Effect (spent u) (parsed (w .bytes)) (w .reach) v answer → Does this u
   unfolding parsed
   effect-does {v} {answer} o (apart head other l) =
       calmly
@@ -101,17 +115,23 @@ module _ (w : Written) (room : ℕ) (u : TagUnit) where
         leaves = record { sound = l .sound; ringNonce = l .ringNonce; identity = l .identity; consent = l .consent };
         quiet = other-id answer (getD (w .bytes) 0 0) head other;
       }))
-  effect-does {v} {answer} o (rings id legal is) =
-      rung (accepts id (answer, ap (λ (x : Outcome). x .result) o))
+  effect-does {v} {answer} o (rings mask id status is) =
+      let given = ap (λ (x : Outcome). x .result) o in
+      rung (accepts id (answer, given)) (not-failed 0 given status (λ z. omega arith))
       (ap (λ (x : Outcome). x .unit .consent) o ∙ ap (λ (x : TagUnit). x .consent) is)
-  effect-does {v} {answer} o (stops id legal none is) =
-      rung (accepts id (answer, ap (λ (x : Outcome). x .result) o)) (ap (λ (x : Outcome). x .unit .consent) o ∙ is)
-  effect-does {v} {answer} o (clears id is) =
+  effect-does {v} {answer} o (stops id status is) =
+      let given = ap (λ (x : Outcome). x .result) o in
+      rung (accepts id (answer, given)) (not-failed 4 given status (λ z. omega arith))
+      (ap (λ (x : Outcome). x .unit .consent) o ∙ ap (λ (x : TagUnit). x .consent) is)
+  effect-does {v} {answer} o (fails id head status notice is) =
+      failed (rw (o, is) (record { sound = refl; ringNonce = refl; identity = refl; consent = refl })) (rw o (not-heard answer head status))
+  effect-does {v} {answer} o (clears id silent is) =
       cleared (accepts id (answer, ap (λ (x : Outcome). x .result) o)) (ap (λ (x : Outcome). x .unit .consent) o ∙ is)
 
-  write-does : {o : Outcome} → step this u ≡ o → WriteEnd u (w .bytes) o → Does this u
+  write-does : {o : Outcome} → step this u ≡ o → Ending u w o → Does this u
+  write-does e (unreached n) = calmly (rw e (calm-refusal n u))
   write-does e (turned n) = calmly (rw e (record { leaves = search; quiet = refl }))
-  write-does e (served s l auth effect) = effect-does e effect
+  write-does e (served r s l auth effect) = effect-does e effect
 
 -- The disconnect that passes
 disconnect-does : (room : ℕ) (u : TagUnit) → wellFormed u ≡ true → step (calls disconnect room) u ≡ disconnected u → Does (calls disconnect room) u
@@ -127,7 +147,7 @@ own-does : (c : Call) (room : ℕ) (u : TagUnit) → 42 ≤ roomFor (calls c roo
     → Does (calls c room) u
 unfolding own
 own-does (read nonce) room u fits formed e = calmly (rw e (read-calm u nonce))
-own-does (write w) room u fits formed e = write-does w room u e (written-so u (w .bytes) formed)
+own-does (write w) room u fits formed e = write-does w room u e (written-so u w formed)
 own-does button room u fits formed e = press-does room u fits e
 own-does (pairing on) room u fits formed e = calmly (rw e (record { leaves = search; quiet = refl }))
 own-does (battery level) room u fits formed e = calmly (rw e (battery-calm u level))

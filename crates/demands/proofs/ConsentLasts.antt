@@ -21,15 +21,15 @@ use Rattle.provisioning.specs.Provisioning.{recoverKey}
 use Rattle.requests.specs.Write.{byId, judged, written}
 use Rattle.tag.specs.Own.{pressed}
 use Rattle.tag.specs.Calls.{button, own, guarded, call, Act, calls, waits, act}
-use Rattle.demands.specs.History.{step, after, writes}
+use Rattle.demands.specs.History.{step, after, sends}
 use Rattle.demands.specs.Among.{NoneIn, Accepts, tenthsIn}
 use Rattle.demands.specs.ConsentLasts.{Consents, consents, Ready, Served, Refused, ConsentLasts}
 use Rattle.demands.proofs.Formed.{formed}
 use Rattle.demands.proofs.Guards.{Met, barred, passed, met}
-use Rattle.demands.proofs.Judging.{opened, length-requestTag, requestOf, bytesOf, parts, shape, own-tag}
+use Rattle.demands.proofs.Judging.{opened, reach-passes, length-requestTag, requestOf, bytesOf, parts, shape, own-tag}
 use Rattle.demands.proofs.KeyPlaces.{owner-key}
 use Rattle.demands.proofs.RingTenths.{tenths-consent}
-use Rattle.demands.proofs.CallsOnSound.{Does, calmly, pressedSilent, pressedRinging, rung, cleared, broughtIn, call-does, tenthsOf, begins, time-passes, time-stands}
+use Rattle.demands.proofs.CallsOnSound.{Does, calmly, pressedSilent, pressedRinging, rung, failed, cleared, broughtIn, call-does, tenthsOf, begins, time-passes, time-stands}
 
 -- One act
 time-consent : (n room : ℕ) (u : TagUnit) → wellFormed u ≡ true → step (waits n room) u .unit .consent ≡ u .consent - tenthsOf (waits n room)
@@ -48,7 +48,8 @@ module _ (a : Act) (u : TagUnit) where
   call-keeps (calmly calm) free kept = calm .leaves .consent
   call-keeps (pressedSilent p s) free kept = absurd (free (consents p s))
   call-keeps (pressedRinging p e) free kept = e
-  call-keeps (rung x e) free kept = e
+  call-keeps (rung x unfails e) free kept = e
+  call-keeps (failed leaves unheard) free kept = leaves .consent
   call-keeps (cleared x e) free kept = absurd (kept x)
   call-keeps (broughtIn x e) free kept = e
 
@@ -56,7 +57,8 @@ module _ (a : Act) (u : TagUnit) where
   call-adds-none (calmly calm) free = omega (arith, calm .leaves .consent)
   call-adds-none (pressedSilent p s) free = absurd (free (consents p s))
   call-adds-none (pressedRinging p e) free = omega arith
-  call-adds-none (rung x e) free = omega arith
+  call-adds-none (rung x unfails e) free = omega arith
+  call-adds-none (failed leaves unheard) free = omega (arith, leaves .consent)
   call-adds-none (cleared x e) free = omega arith
   call-adds-none (broughtIn x e) free = omega arith
 
@@ -113,47 +115,48 @@ press-gives room u w silent fits = go (met (calls button room) u)
     go (passed f right e) = ap (λ (o : Outcome). o .unit .consent) e ∙ rw silent
 
 -- The rightly tagged 0x04 comes to the test of consent
-module _ (u : TagUnit) (key : List ℕ) (room : ℕ) (ready : Ready u key room) where
+module _ (u : TagUnit) (key : List ℕ) (reach room : ℕ) (ready : Ready u key reach room) where
   abbrev mark : List ℕ
   mark = requestTag (recoveryKey (u .identity .bytes)) (lastNonce u) 0x04 8 []
 
-  comes : step (writes (bytesOf 0x04 8 mark []) room) u ≡ concluded (spent u) (recoverKey (spent u) (requestOf 0x04 8 mark []))
-  unfolding act call guarded own written judged byId sizeLegal oneOf legalSizes
+  comes : step (sends (bytesOf 0x04 8 mark []) reach room) u ≡ concluded (spent u) (recoverKey (spent u) (requestOf 0x04 8 mark []))
+  unfolding act call guarded own judged byId sizeLegal oneOf legalSizes
   comes =
       let eight = length-requestTag (recoveryKey (u .identity .bytes)) (lastNonce u) 0x04 8 [] in
-      opened u room (written u (bytesOf 0x04 8 mark [])) (ready .formed) (ready .fits)
+      opened u room (written u (bytesOf 0x04 8 mark []) reach) (ready .formed) (ready .fits)
+      ∙ reach-passes u (bytesOf 0x04 8 mark []) reach (ready .within)
       ∙ rw (shape 0x04 8 mark [] eight refl refl, ready .live, parts 0x04 8 mark [] eight refl, ready .identityHeld)
 
-  grants : ltb 0 (u .consent) || u .pairing ≡ true → Served u key room
+  grants : ltb 0 (u .consent) || u .pairing ≡ true → Served u key reach room
   unfolding recoverKey requestTag derivedKey signed answerTag encryptedKey
   grants consent =
       ap (λ (o : Outcome). o .result) comes
       ∙ rw (owner-key u (ready .formed) key (ready .owned), own-tag (recoveryKey (u .identity .bytes)) (lastNonce u) 0x04 8 [], consent)
 
-  denies : ltb 0 (u .consent) || u .pairing ≡ false → Refused u room
+  denies : ltb 0 (u .consent) || u .pairing ≡ false → Refused u reach room
   unfolding recoverKey requestTag derivedKey
   denies none =
       ap (λ (o : Outcome). o .result) comes
       ∙ rw (owner-key u (ready .formed) key (ready .owned), own-tag (recoveryKey (u .identity .bytes)) (lastNonce u) 0x04 8 [], none)
 
-  without : u .consent ≡ 0 → u .pairing ≡ false → Refused u room
+  without : u .consent ≡ 0 → u .pairing ≡ false → Refused u reach room
   without none off = denies (rw (none, off))
 
 pub consent-lasts : ConsentLasts
 unfolding after
 consent-lasts =
     record {
-      within = λ u pressRoom l key room p kept ready short.
+      within = λ u pressRoom l key reach room p kept ready short.
           let v = step (calls button pressRoom) u .unit in
           let given = press-gives pressRoom u (p .formed) (p .silent) (p .fits) in
           let w = formed .kept (calls button pressRoom) u (p .formed) in
           let some : 0 < after l v .consent = omega (arith, list-keeps l v w (p .once) kept) in
-          grants (after l v) key room ready (or-left (after l v .pairing) (lt-ltb 0 (after l v .consent) some));
-      later = λ u pressRoom l key room p ready off long.
+          grants (after l v) key reach room ready (or-left (after l v .pairing) (lt-ltb 0 (after l v .consent) some));
+      later = λ u pressRoom l key reach room p ready off long.
           let v = step (calls button pressRoom) u .unit in
           let given = press-gives pressRoom u (p .formed) (p .silent) (p .fits) in
           let w = formed .kept (calls button pressRoom) u (p .formed) in
-          without (after l v) key room ready (omega (arith, list-adds-none l v w (p .once))) off;
-      pairing = λ u key room ready on. grants u key room ready (or-right (ltb 0 (u .consent)) on);
-      never = λ s h key room free ready off. without (after h (fresh s)) key room ready (omega (arith, list-no-more h (fresh s) free)) off;
+          without (after l v) key reach room ready (omega (arith, list-adds-none l v w (p .once))) off;
+      pairing = λ u key reach room ready on. grants u key reach room ready (or-right (ltb 0 (u .consent)) on);
+      never = λ s h key reach room free ready off. without (after h (fresh s)) key reach room ready (omega (arith, list-no-more h (fresh s) free)) off;
     }

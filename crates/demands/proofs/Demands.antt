@@ -8,6 +8,7 @@ use Rattle.demands.proofs.NonceRepeats.{nonce-repeats}
 use Rattle.demands.proofs.Recovery.{recovery}
 use Rattle.demands.proofs.RecoveryExample.{example}
 use Rattle.demands.proofs.WaitingKey.{waiting-key}
+use Rattle.demands.proofs.Reach.{reach}
 use Rattle.demands.proofs.ConsentLasts.{consent-lasts}
 use Rattle.demands.proofs.Edges.{edges}
 use Rattle.demands.proofs.Time.{demand3}
@@ -35,6 +36,7 @@ demands =
       recovered = recovery;
       recoveredOnce = example;
       waitingKey = waiting-key;
+      reach = reach;
       consentLasts = consent-lasts;
       edges = edges;
       sleeps = demand3;

@@ -2,11 +2,11 @@
 use mathlib.Core.Path.{refl}
 use Rattle.unit.specs.WellFormed.{settingsLegal}
 use Rattle.laws.specs.Bytes.{number, numberAfter, bigEndian}
-use Rattle.ringing.specs.Ringing.{ring, rung, ringLegal}
+use Rattle.ringing.specs.Ringing.{ring, ringDecision, rung, ringLegal}
 use Rattle.tag.specs.Calls.{newUnit}
 use Rattle.time.specs.Time.{clockOn, ringOn, oneTenth, afterTenth, tenths}
 use Rattle.demands.specs.Edges.{table, Edges}
 
 pub edges : Edges
-unfolding table settingsLegal ring rung ringLegal number numberAfter bigEndian newUnit clockOn ringOn oneTenth afterTenth tenths
+unfolding table settingsLegal ring ringDecision rung ringLegal number numberAfter bigEndian newUnit clockOn ringOn oneTenth afterTenth tenths
 edges = (refl, (refl, (refl, (refl, (refl, (refl, (refl, (refl, (refl, (refl, (refl, (refl, (refl, tt)))))))))))))

@@ -15,12 +15,14 @@ use Rattle.unit.specs.declared.TagUnit.{TagUnit}
 use Rattle.unit.specs.declared.Settings.{Settings}
 use Rattle.unit.specs.declared.Sound.{Sound}
 use Rattle.sizes.specs.Sizes.{answerRoom}
+use Rattle.unit.specs.Ringable.{inside}
 use Rattle.unit.specs.WellFormed.{settingsLegal, wellFormed}
 use Rattle.unit.specs.Change.{spent, noUnit}
 use Rattle.unit.specs.Outcome.{Outcome, giving, refusing, formed, answering}
 use Rattle.unit.proofs.Lines.{lines}
 use Rattle.authentication.specs.Judgement.{Judgement, accepts, rejects, under, concluded}
 use Rattle.provisioning.specs.Provisioning.{readParameters, readState, setKey, clearKey, recoverKey}
+use Rattle.ringing.specs.declared.sounding.Decision.{Decision}
 use Rattle.ringing.specs.Ringing.{ring, rung, readSound}
 use Rattle.ringing.specs.Protecting.{protect, unprotect}
 use Rattle.requests.specs.Write.{byId, judged, written}
@@ -98,13 +100,19 @@ key-fair none j h = rejected notAuthenticated
 
 ruleset fairly = (key-fair, accepted, rejected, notAuthenticated, invalidValue, noConsent)
 
-by-id-fair : (u : TagUnit) (q : Request) → Fair (byId u q)
-unfolding byId readParameters readState setKey clearKey recoverKey ring rung readSound protect unprotect
-by-id-fair u q = search (fairly, either Fair) depth 20
+rung-fair : (d : Decision) (u : TagUnit) (volume left : ℕ) → Fair (rung d u volume left)
+unfolding rung
+rung-fair (Decision.Started mask) u volume left = accepted
+rung-fair Decision.Stopped u volume left = accepted
+rung-fair Decision.Failed u volume left = accepted
 
-judged-fair : (u : TagUnit) (w : List ℕ) → Fair (judged u w)
+by-id-fair : (u : TagUnit) (q : Request) (reach : ℕ) → Fair (byId u q reach)
+unfolding byId readParameters readState setKey clearKey recoverKey ring readSound protect unprotect
+by-id-fair u q reach = search (fairly, rung-fair, either Fair) depth 20
+
+judged-fair : (u : TagUnit) (w : List ℕ) (reach : ℕ) → Fair (judged u w reach)
 unfolding judged
-judged-fair u w = search (fairly, either Fair, by-id-fair)
+judged-fair u w reach = search (fairly, either Fair, by-id-fair)
 
 -- How a call ended, with the lent bytes
 module _ {u : TagUnit} (before : List ℕ) where
@@ -128,7 +136,9 @@ module _ {u : TagUnit} (before : List ℕ) where
   sort-ended : {a : Act} → Sort u a → Ended u (step a u) before
   unfolding own written
   sort-ended {a} (writing w room) =
-      rw (act-guarded a u) (guards-ended (roomFor a) (ownOf a u) (fair-ended (judged-fair u (w .bytes))))
+      rw (act-guarded a u)
+      (guards-ended (roomFor a) (ownOf a u)
+      (either (λ o. Ended u o before) (inside (w .reach) (u .settings .components)) (fair-ended (judged-fair u (w .bytes) (w .reach))) (plain-ended (refusal outOfRange))))
   sort-ended {a} (other p) = rw (act-guarded a u) (guards-ended (roomFor a) (ownOf a u) (plain-ended p))
 
 -- No number is both plain and spending

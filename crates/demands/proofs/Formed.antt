@@ -99,7 +99,7 @@ module _ (u : TagUnit) (w : wellFormed u ≡ true) where
   own-keeps : (a : Act) → Keeps (ownOf a u)
   unfolding own
   own-keeps (calls (read nonce) room) = issuing-keeps nonce
-  own-keeps (calls (write b) room) = keeps (written-kept u w (b .bytes))
+  own-keeps (calls (write b) room) = keeps (written-kept u w (b .bytes) (b .reach))
   own-keeps (calls button room) = pressed-keeps (u .sound)
   own-keeps (calls (pairing on) room) = keeps (pairing-kept u w on)
   own-keeps (calls (battery level) room) = battery-keeps level

@@ -22,11 +22,11 @@ use Rattle.unit.proofs.Lines.{lines, AccountsLines, key-length, held-count}
 use Rattle.provisioning.specs.Provisioning.{cleared}
 use Rattle.nonces.specs.Nonces.{nonceFits}
 use Rattle.tag.specs.Own.{issuing}
-use Rattle.tag.specs.Calls.{own, Act}
+use Rattle.tag.specs.Calls.{Written, own, Act}
 use Rattle.demands.specs.History.{step, after, Bytes, OfBytes, AllOfBytes}
 use Rattle.demands.proofs.Guards.{ownOf, met, Met, barred, passed}
 use Rattle.demands.proofs.OfBytes.{bytes-take, bytes-drop, bytes-cons, bytes-append}
-use Rattle.demands.proofs.WritesOnKeys.{choose, set, clear, recovered, other, Ended, turned, served, ends-written}
+use Rattle.demands.proofs.WritesOnKeys.{choose, set, clear, recovered, other, Ended, unreached, turned, served, ends-written}
 use Rattle.demands.proofs.OtherCalls.{Sorted, aRead, aWrite, aKey, aDisconnect, aside, sorted, Keeping, same, more, keeps, Disconnecting, nothingIn, keyIn, disconnects}
 
 -- a key of sixteen bytes
@@ -54,8 +54,9 @@ read-filled : (nonce : List ℕ) (u : TagUnit) → Filled u → Filled (issuing 
 unfolding issuing
 read-filled nonce u s = choose (λ (o : Outcome). Filled (o .unit)) (nonceFits (u .nonces) nonce) (λ e. s) (λ e. s)
 
-written-filled : {u : TagUnit} {w : List ℕ} {o : Outcome} → Ended u w o → Filled u → Filled (o .unit)
+written-filled : {u : TagUnit} {w : Written} {o : Outcome} → Ended u w o → Filled u → Filled (o .unit)
 unfolding cleared
+written-filled (unreached n out) s = s
 written-filled (turned n) s = s
 written-filled (served sh l (set key e o)) s = s
 written-filled (served sh l (clear e)) s = zeros 80
@@ -69,7 +70,7 @@ disconnected-filled (keyIn held) s = s
 own-filled : {a : Act} → Sorted a → (u : TagUnit) → OfBytes a → Filled u → Filled (ownOf a u .unit)
 unfolding own
 own-filled (aRead {nonce}) u b s = read-filled nonce u s
-own-filled (aWrite {w}) u b s = written-filled (ends-written u (w .bytes)) s
+own-filled (aWrite {w}) u b s = written-filled (ends-written u w) s
 own-filled (aKey {key}) u b s = keeping-filled (keeps key u) b s
 own-filled aDisconnect u b s = disconnected-filled (disconnects u) s
 own-filled (aside k leaves) u b s = rw (leaves u .table) s

@@ -28,7 +28,7 @@ use Rattle.tag.specs.Calls.{Written, write, disconnect, own, Act, calls}
 use Rattle.demands.specs.History.{step, after}
 use Rattle.demands.specs.Among.{NoneIn, Accepts, accepts, BringsIn, bringsIn}
 use Rattle.demands.proofs.Guards.{ownOf, met, Met, barred, passed}
-use Rattle.demands.proofs.WritesOnKeys.{choose, set, clear, recovered, other, Ended, turned, served, ends-written}
+use Rattle.demands.proofs.WritesOnKeys.{choose, set, clear, recovered, other, Ended, unreached, turned, served, ends-written}
 use Rattle.demands.proofs.OtherCalls.{Sorted, aRead, aWrite, aKey, aDisconnect, aside, sorted, Keeping, same, more, keeps, Disconnecting, nothingIn, keyIn, disconnects}
 
 -- The unit v has the owner's key of u, where u has one
@@ -70,9 +70,10 @@ unfolding issuing
 read-acts a nonce u =
     choose (λ (o : Outcome). OnKeys a u (o .unit)) (nonceFits (u .nonces) nonce) (λ e. kept (λ key e. e) refl refl) (λ e. untouched a u)
 
-write-acts : (w : Written) (room : ℕ) (u : TagUnit) {o : Outcome} → Ended u (w .bytes) o → step (calls (write w) room) u ≡ o
+write-acts : (w : Written) (room : ℕ) (u : TagUnit) {o : Outcome} → Ended u w o → step (calls (write w) room) u ≡ o
     → OnKeys (calls (write w) room) u (o .unit)
 unfolding parsed cleared
+write-acts w room u (unreached n out) e = kept (λ key e. e) refl refl
 write-acts w room u (turned n) e = kept (λ key e. e) refl refl
 write-acts w room u (served {answer = a} s l (set key id o)) e = sets (accepts id (a, ap (λ (x : Outcome). x .result) e)) (λ key e. e) refl
 write-acts w room u (served {answer = a} s l (clear id)) e = drops (accepts id (a, ap (λ (x : Outcome). x .result) e)) refl
@@ -86,7 +87,7 @@ disconnect-acts room w (keyIn held) = brings (bringsIn w held) (λ key e. e) ref
 own-acts : {a : Act} → Sorted a → (u : TagUnit) → wellFormed u ≡ true → step a u ≡ ownOf a u → OnKeys a u (ownOf a u .unit)
 unfolding own
 own-acts {a} (aRead {nonce}) u formed e = read-acts a nonce u
-own-acts (aWrite {w} {room}) u formed e = write-acts w room u (ends-written u (w .bytes)) e
+own-acts (aWrite {w} {room}) u formed e = write-acts w room u (ends-written u w) e
 own-acts {a} (aKey {key}) u formed e = key-acts a formed (keeps key u)
 own-acts (aDisconnect {room}) u formed e = disconnect-acts room formed (disconnects u)
 own-acts (aside k leaves) u formed e = kept (leaves u .owner) (leaves u .identity) (leaves u .waiting)

@@ -27,6 +27,7 @@ pub mod Nonces
 pub mod NonceRepeats
 pub mod RingStarts
 pub mod RingRuns
+pub mod Reach
 pub mod RingLasts
 pub mod ConsentLasts
 pub mod Sleeps

@@ -20,6 +20,7 @@ use Rattle.tag.specs.Calls.{Written, read, write, Act, calls}
 use Rattle.demands.specs.History.{step, after}
 use Rattle.demands.specs.Nonces.{Succeeds, PassesGuards, passes, Issues, issues, Quiet, Issue, MayTag, parameters, state, keySet, cleared, recovery, ring, soundState, protected, unprotected, Authenticated, tagged as tagged-with, skipped, Demand2Nonces}
 use Rattle.demands.proofs.WritesOnSound.{Authorised, signed-by, unasked, admitted}
+use Rattle.demands.proofs.MaskBits.{inside-bits}
 use Rattle.demands.proofs.CallsOnNonce.{Noncing, issue, spend, keep, noncing}
 use Rattle.demands.proofs.Histories.{after-append}
 
@@ -109,13 +110,14 @@ authenticated u w (signed-by key may t) = tagged-with key (before-spent may) (sy
 authenticated u w (unasked isRing skip) = skipped isRing skip
 
 accepted-with : (u : TagUnit) (w : Written) (room : ℕ) → Succeeds (calls (write w) room) u → Authenticated u (w .bytes) (u .nonces .newest)
-accepted-with u w room (answer, r) = authenticated u (w .bytes) (admitted (w .bytes) room u answer r .authorised)
+accepted-with u w room (answer, r) = authenticated u (w .bytes) (admitted w room u answer r .authorised)
 
 accepted-live : (u : TagUnit) (w : Written) (room : ℕ) → Succeeds (calls (write w) room) u → Live u
-accepted-live u w room (answer, r) = admitted (w .bytes) room u answer r .live
+accepted-live u w room (answer, r) = admitted w room u answer r .live
 
 accepted-passes : (u : TagUnit) (w : Written) (room : ℕ) → Succeeds (calls (write w) room) u → PassesGuards (calls (write w) room) u
-accepted-passes u w room (answer, r) = let a = admitted (w .bytes) room u answer r in passes (a .fits) (a .formed)
+accepted-passes u w room (answer, r) =
+    let a = admitted w room u answer r in passes (a .fits) (a .formed) (inside-bits (w .reach) (u .settings .components) (a .within))
 
 -- Every accepted write was judged with the nonce of the last issue
 owned : (u : TagUnit) (h : List Act) (w : Written) (room : ℕ) → (after h u .nonces .live ≡ true → (nonce : List ℕ) × Issue u h nonce)

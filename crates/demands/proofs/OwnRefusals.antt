@@ -11,7 +11,7 @@ use lib.ListN.{length, getD}
 use borrow.Author.Tests.{eqb-true, eqb-false, ne-eqb, eq-eqb, le-ltb, ltb-false, leb-false, lt-leb, not-false, not-true}
 use Rattle.laws.specs.Answer.{gives, refuses}
 use Rattle.laws.specs.Bytes.{sameBytes}
-use Rattle.laws.proofs.Flags.{and-fails-left, and-fails-right, and-left, and-right, both, fails, clash}
+use Rattle.laws.proofs.Flags.{true-or-false, and-fails-left, and-fails-right, and-left, and-right, both, fails, clash}
 use Rattle.laws.proofs.Same.{same-equal, equal-same}
 use Rattle.tables.specs.Rows.{among}
 use Rattle.tables.proofs.Rows.{among-place}
@@ -22,14 +22,16 @@ use Rattle.unit.specs.WellFormed.{wellFormed, heldKeys}
 use Rattle.unit.specs.Standing.{stands}
 use Rattle.unit.specs.Outcome.{Outcome, refusing}
 use Rattle.unit.proofs.Lines.{held-count}
+use Rattle.unit.specs.Ringable.{inside}
+use Rattle.requests.specs.Write.{written}
 use Rattle.nonces.specs.Nonces.{issuedNonces, nonceFits}
 use Rattle.nonces.proofs.Lines.{issued-count}
 use Rattle.tag.specs.Own.{issuing, pressed, charged, keeping, disconnected, lending, showing}
-use Rattle.tag.specs.Calls.{read, write, button, pairing, battery, accountKey, disconnect, identifier, frame, own as ownCall, Act, calls, waits}
+use Rattle.tag.specs.Calls.{Written, read, write, button, pairing, battery, accountKey, disconnect, identifier, frame, own as ownCall, Act, calls, waits}
 use Rattle.demands.specs.History.{step}
 use Rattle.demands.specs.Spelled.{keyAtPlace, nonceAtPlace}
 use Rattle.demands.specs.RecordLines.{RecordLines}
-use Rattle.demands.specs.RefusalOrder.{Own, nonceLength, nonceHeld, ofWrite, batteryLevel, keyLength, sixthKey, rLength, identifierLength, lentWithoutKey, frameWithoutKey, frameWithoutIdentifier, otherWindow}
+use Rattle.demands.specs.RefusalOrder.{Own, nonceLength, nonceHeld, reachOutside, ofWrite, batteryLevel, keyLength, sixthKey, rLength, identifierLength, lentWithoutKey, frameWithoutKey, frameWithoutIdentifier, otherWindow}
 use Rattle.demands.proofs.Choices.{tested}
 use Rattle.demands.proofs.Ends.{tenths-give}
 use Rattle.demands.proofs.Guards.{roomFor, ownOf}
@@ -38,6 +40,7 @@ use Rattle.demands.proofs.Refusing.{same-either}
 use Rattle.demands.proofs.Reasons.{one-fails}
 use Rattle.demands.proofs.Refused.{write-refused, only-for-a-reason}
 use Rattle.demands.proofs.LentRoom.{through}
+use Rattle.demands.proofs.MaskBits.{inside-bits, outside-bit, bit-outside}
 
 -- An answer, or a refusal of the list that changes nothing
 data Found (u : TagUnit) (a : Act) : Outcome → Type 0 where
@@ -119,6 +122,17 @@ module _ (u : TagUnit) (l : RecordLines u) where
       go (inl e) = frameWithoutKey e
       go (inr e) = last (one-fails _ _ (e .1))
 
+-- A write with a reach that is outside
+outside : (u : TagUnit) (w : List ℕ) (reach : ℕ) → inside reach (u .settings .components) ≡ false → written u w reach ≡ refusing 1 u
+unfolding written
+outside u w reach e = rw e
+
+outside-found : (u : TagUnit) (w : Written) (room : ℕ) → inside (w .reach) (u .settings .components) ≡ false
+    → Found u (calls (write w) room) (written u (w .bytes) (w .reach))
+outside-found u w room h =
+    let b = outside-bit (w .reach) (u .settings .components) h in
+    rw (outside u (w .bytes) (w .reach) h) (refused (reachOutside (b .0) (b .1) (b .2)))
+
 -- Behind the guards, an act is refused only for one of its own refusals
 from-found : {u : TagUnit} {a : Act} {o : Outcome} (n : ℕ) → Found u a o → o .result ≡ refuses n → Own u a n
 from-found n (answered answer g) e = let z : _≡_ {A = ℕ} 0 1 = cc in absurd (omega arith)
@@ -128,8 +142,15 @@ module _ (u : TagUnit) (n : ℕ) (l : RecordLines u) (right : wellFormed u ≡ t
   pub own-only : (a : Act) → 42 ≤ roomFor a → ownOf a u .result ≡ refuses n → Own u a n
   unfolding ownCall disconnected
   own-only (calls (read nonce) room) fits e = from-found n (read-found u l nonce room) e
-  own-only (calls (write w) room) fits e =
-      ofWrite (only-for-a-reason u room (w .bytes) n right fits (ap (λ (o : Outcome). o .result) (through (calls (write w) room) u fits right) ∙ e))
+  own-only (calls (write w) room) fits e = go (true-or-false (inside (w .reach) (u .settings .components)))
+    where
+      go : (inside (w .reach) (u .settings .components) ≡ true) ⊎ (inside (w .reach) (u .settings .components) ≡ false) → Own u (calls (write w) room) n
+      go (inl h) =
+          let within = inside-bits (w .reach) (u .settings .components) h in
+          ofWrite within
+          (only-for-a-reason u (w .reach) room (w .bytes) n right fits within
+          (ap (λ (o : Outcome). o .result) (through (calls (write w) room) u fits right) ∙ e))
+      go (inr h) = from-found n (outside-found u w room h) e
   own-only (calls button room) fits e = from-found n (press-found u l room (u .sound)) e
   own-only (calls (pairing on) room) fits e = let z : _≡_ {A = ℕ} 0 1 = cc in absurd (omega arith)
   own-only (calls (battery level) room) fits e = from-found n (battery-found u l level room) e
@@ -197,7 +218,9 @@ module _ (u : TagUnit) (l : RecordLines u) where
   unfolding ownCall
   own-refuses {a} (nonceLength {nonce} h) right fits = rw (through a u fits right, nonce-refused nonce (not-eight nonce h))
   own-refuses {a} (nonceHeld {nonce} p held e) right fits = rw (through a u fits right, nonce-refused nonce (again nonce p held e))
-  own-refuses (ofWrite {w} {room} {n} r) right fits = write-refused u room (w .bytes) n right fits r .number
+  own-refuses {a} (reachOutside {w} i k b) right fits =
+      rw (through a u fits right, outside u (w .bytes) (w .reach) (bit-outside (w .reach) (u .settings .components) i k b))
+  own-refuses (ofWrite {w} {room} {n} within r) right fits = write-refused u (w .reach) room (w .bytes) n right fits within r .number
   own-refuses {a} (batteryLevel {level} h) right fits = rw (through a u fits right, too-high level h)
   own-refuses {a} (keyLength {key} h) right fits = rw (through a u fits right, not-sixteen key h)
   own-refuses {a} (sixthKey {key} count new) right fits = rw (through a u fits right, no-room-for key count new)

@@ -7,7 +7,7 @@ use mathlib.Core.List.{List, [], _∷_}
 use mathlib.Core.Logic.{_⊎_, inl, inr}
 use mathlib.Core.Option.{Option, some, none}
 use native.Mathlib.Omega.{arith}
-use lib.Dec.{eqb, ltb, leb}
+use lib.Dec.{ltb, leb}
 use lib.ListN.{length, getD, drop}
 use borrow.Author.Tests.{ltb-false, leb-false, not-false}
 use Rattle.laws.proofs.Flags.{true-or-false, or-cases, or-fails-left, or-fails-right, clash}
@@ -23,6 +23,7 @@ use Rattle.unit.specs.Change.{spent}
 use Rattle.unit.proofs.Lines.{held-count}
 use Rattle.authentication.specs.Judgement.{Judgement, accepts, rejects, under, onlyIf, tagged, proves, usedKey, signedByOwner}
 use Rattle.provisioning.specs.Provisioning.{readParameters, readState, mayReplace, setKey, clearKey, recoverKey}
+use Rattle.ringing.specs.declared.sounding.Decision.{Decision}
 use Rattle.ringing.specs.Ringing.{skips, ringLegal, rung, ring, readSound}
 use Rattle.ringing.specs.Protecting.{protect, unprotect}
 use Rattle.requests.specs.Write.{byId, keyThere, judged}
@@ -88,7 +89,7 @@ four-bytes (x ∷ y ∷ z ∷ []) e = absurd (omega arith)
 four-bytes (x ∷ y ∷ z ∷ v ∷ []) e = (x, y, z, v, refl)
 four-bytes (x ∷ y ∷ z ∷ v ∷ t ∷ l) e = absurd (omega arith)
 
-module _ (u : TagUnit) (w : List ℕ) (l : RecordLines u) where
+module _ (u : TagUnit) (w : List ℕ) (reach : ℕ) (l : RecordLines u) where
   -- A judgement that accepts, or rejects for a reason
   data Found : Judgement → Type 0 where
     accepted : {v : TagUnit} {answer : List ℕ} → Found (accepts v answer)
@@ -102,9 +103,11 @@ module _ (u : TagUnit) (w : List ℕ) (l : RecordLines u) where
   checked : (ok : Bool) {n : ℕ} {next : Judgement} → (ok ≡ true → Found next) → (ok ≡ false → Reason u w n) → Found (cond ok next (rejects n))
   checked ok next fault = tested Found ok next (λ e. rejected (fault e))
 
-  rung-found : (v : TagUnit) (mask volume left : ℕ) → Found (rung v mask volume left)
+  rung-found : (d : Decision) (v : TagUnit) (volume left : ℕ) → Found (rung d v volume left)
   unfolding rung
-  rung-found v mask volume left = tested Found (eqb mask 0) (λ e. accepted) (λ e. accepted)
+  rung-found (Decision.Started mask) v volume left = accepted
+  rung-found Decision.Stopped v volume left = accepted
+  rung-found Decision.Failed v volume left = accepted
 
   -- Where the owner did not sign
   data Unsigned (q : Request) : Type 0 where
@@ -223,12 +226,12 @@ module _ (u : TagUnit) (w : List ℕ) (l : RecordLines u) where
           go mask high low volume is (inl fault) = wrongRing (rw is at t) fault
           go mask high low volume is (inr h) = absurd (clash h (rw is at e))
 
-      ring-found : Sent w 0x05 12 tag additional → Found (ring (spent u) (requestOf 0x05 12 tag additional))
+      ring-found : Sent w 0x05 12 tag additional → Found (ring (spent u) (requestOf 0x05 12 tag additional) reach)
       unfolding ring
       ring-found s =
           checked (skips (u .protection) || tagged (derivedKey 0x02 (u .identity .bytes)) (u .nonces .newest) (requestOf 0x05 12 tag additional))
           (λ t.
-          checked (ringLegal (u .settings) additional) (λ e. rung-found (spent u) _ _ _)
+          checked (ringLegal (u .settings) additional) (λ e. rung-found _ (spent u) _ _)
           (not-legal (passed s (or-cases _ _ t)) (s .counted)))
           (λ e.
           not-signed 0x05 12 0x02 s rings (λ k. true≢false (sym (ap skips (k .1)) ∙ or-fails-left _ _ e)) (or-fails-right (skips (u .protection)) _ e))
@@ -268,7 +271,7 @@ module _ (u : TagUnit) (w : List ℕ) (l : RecordLines u) where
           go (inr e) = wrongProof s (proof-wrong (spent u) additional (e .1))
 
     by-id : {id size : ℕ} → LegalLength id size → Sent w id size tag additional → (ltb id 3 || u .identity .held) ≡ true
-        → Found (byId (spent u) (requestOf id size tag additional))
+        → Found (byId (spent u) (requestOf id size tag additional) reach)
     unfolding byId readParameters readState
     by-id ofParameters s there = with-key (usedKey (spent u) (requestOf 0x00 8 tag additional)) _ (unmatched 0x00 (omega arith) s) (λ key e. accepted)
     by-id ofState s there = with-key (usedKey (spent u) (requestOf 0x01 8 tag additional)) _ (unmatched 0x01 (omega arith) s) (λ key e. accepted)
@@ -282,7 +285,7 @@ module _ (u : TagUnit) (w : List ℕ) (l : RecordLines u) where
     by-id ofProtectionFlag s there = protect-found there 9 s (flag-wrong there (s .counted))
     by-id ofUnprotection s there = unprotect-found there s
 
-  judged-found : Found (judged u w)
+  judged-found : Found (judged u w reach)
   unfolding judged
   judged-found =
       checked (shapeLegal w)
@@ -295,8 +298,8 @@ module _ (u : TagUnit) (w : List ℕ) (l : RecordLines u) where
       (noLiveNonce s))
       (λ e. illegalShape (illegal w e))
 
-  pub reason-found : (n : ℕ) → judged u w ≡ rejects n → Reason u w n
-  reason-found n e = go (judged u w) judged-found e
+  pub reason-found : (n : ℕ) → judged u w reach ≡ rejects n → Reason u w n
+  reason-found n e = go (judged u w reach) judged-found e
     where
       go : (j : Judgement) → Found j → j ≡ rejects n → Reason u w n
       go j accepted h = let z : _≡_ {A = ℕ} 0 1 = cc in absurd (omega arith)

@@ -29,7 +29,7 @@ use Rattle.nonces.specs.Nonces.{issuedNonces}
 use Rattle.nonces.proofs.Lines.{NoncesLines, nonces-lines, nonces-legal, issued-count}
 use Rattle.demands.specs.Spelled.{keyAtPlace, nonceAtPlace}
 use Rattle.demands.specs.RecordLines.{Zeros, RingLines, RecordLines, WellFormedExactly}
-use Rattle.demands.proofs.MaskBits.{inside-below, below-inside, no-bit, bit-from}
+use Rattle.demands.proofs.MaskBits.{inside-bits, bits-inside}
 
 -- Zeros, byte by byte
 zeros-at : (l : List ℕ) → allZero l ≡ true → Zeros l
@@ -122,7 +122,7 @@ module _ (u : TagUnit) (l : Lines u) where
       record {
         keyed = r .identityHeld;
         someMask = r .some;
-        noBitOutside = λ i h. no-bit mask (u .settings .components) i (inside-below mask (u .settings .components) (r .within)) (omega arith);
+        noBitOutside = inside-bits mask (u .settings .components) (r .within);
         loudest = r .atVolume .most;
         notSelectable = r .atVolume .fixed;
         leastLeft = r .least;
@@ -220,15 +220,6 @@ module _ (u : TagUnit) (l : RecordLines u) where
       some (inl e) live = ltb-true _ _ e
       some (inr e) live = absurd (clash live (l .notLive (let none : u .nonces .count ≤ 0 = ltb-false 0 (u .nonces .count) e in omega arith)))
 
-  within : (mask : ℕ) → ((i : ℕ) → u .settings .components ≤ i → mask / 2 ^ i % 2 ≡ 0) → inside mask (u .settings .components) ≡ true
-  within mask none = go (true-or-false (ltb mask (2 ^ u .settings .components)))
-    where
-      go : (ltb mask (2 ^ u .settings .components) ≡ true) ⊎ (ltb mask (2 ^ u .settings .components) ≡ false) → inside mask (u .settings .components) ≡ true
-      go (inl e) = below-inside mask (u .settings .components) (ltb-true _ _ e)
-      go (inr e) =
-          let bit = bit-from mask (u .settings .components) (ltb-false _ _ e) in
-          absurd (omega (arith, bit .2, none (bit .0) (omega (arith, bit .1))))
-
   sound-legal : (s : Sound) → u .sound ≡ s → soundLegal s (u .«ring_nonce») (u .settings) (u .identity .held) ≡ true
   unfolding soundLegal
   sound-legal Sound.Silent e = zeros-all _ (l .silent e)
@@ -238,7 +229,7 @@ module _ (u : TagUnit) (l : RecordLines u) where
       (record {
         identityHeld = r .keyed;
         some = r .someMask;
-        within = within mask (r .noBitOutside);
+        within = bits-inside mask (u .settings .components) (r .noBitOutside);
         atVolume = record { most = r .loudest; fixed = r .notSelectable };
         least = r .leastLeft;
         most = r .mostLeft;

@@ -23,12 +23,12 @@ use Rattle.unit.specs.WellFormed.{wellFormed, ownerKey}
 use Rattle.unit.specs.Change.{fresh, spent}
 use Rattle.authentication.specs.Judgement.{accepts, lastNonce}
 use Rattle.provisioning.specs.Provisioning.{awaiting}
-use Rattle.tag.specs.Calls.{disconnect, Act, calls}
+use Rattle.tag.specs.Calls.{Written, disconnect, Act, calls}
 use Rattle.demands.specs.History.{step, after, writes, Bytes}
 use Rattle.demands.specs.Among.{NoneIn, Accepts, accepts, BringsIn, bringsIn}
 use Rattle.demands.specs.Events.{BroughtIn}
 use Rattle.demands.specs.Recovery.{dataOf, Demand2Recovery}
-use Rattle.demands.proofs.Judging.{length-answerTag}
+use Rattle.demands.proofs.Judging.{data-signed}
 use Rattle.demands.proofs.WritesOnKeys.{Did, set, clear, recovered, other, accepted-write}
 use Rattle.demands.proofs.OfBytes.{bytes-drop, split-bytes}
 use Rattle.demands.proofs.Histories.{after-append}
@@ -36,11 +36,6 @@ use Rattle.demands.proofs.Events.{events}
 use Rattle.demands.proofs.KeyKept.{InForce, stays-in-force, Waiting, still-waiting}
 use Rattle.demands.proofs.KeyBytes.{Sixteen, owner-sixteen}
 use Rattle.demands.proofs.Blocks.{round-trip}
-
--- the data of an answer
-data-signed : (key nonce : List ℕ) (id : ℕ) («data» : List ℕ) → dataOf (signed key nonce id «data») ≡ «data»
-unfolding signed
-data-signed key nonce id «data» = drop-at (answerTag key nonce id «data») «data» 8 (length-answerTag key nonce id «data»)
 
 -- An 0x02 of legal shape has at least 32 bytes of additional data
 long-enough : (w : List ℕ) → shapeLegal w ≡ true → parsed w .id ≡ 0x02 → 32 ≤ length (parsed w .additional)
@@ -80,12 +75,12 @@ pub record KeySet (u : TagUnit) (bytes : List ℕ) (v : TagUnit) : Type 0 where
   pub owner : ownerKey (u .accounts) ≡ some key
   pub left : v ≡ awaiting (decryptedKey key (dataOf bytes)) (spent u)
 
-pub key-set : (bytes : List ℕ) (room : ℕ) (u : TagUnit) → Accepts 0x02 (writes bytes room) u → KeySet u bytes (step (writes bytes room) u .unit)
+pub key-set : (w : Written) (room : ℕ) (u : TagUnit) → Accepts 0x02 (writes w room) u → KeySet u (w .bytes) (step (writes w room) u .unit)
 unfolding parsed
-key-set bytes room u (accepts id (answer, e)) =
-    let a = accepted-write (record { bytes = bytes }) room u answer e in
+key-set w room u (accepts id (answer, e)) =
+    let a = accepted-write w room u answer e in
     let (key, owner, unit) = was-set (a .did) id in
-    record { formed = a .formed; long = long-enough bytes (a .legal) id; key = key; owner = owner; left = unit }
+    record { formed = a .formed; long = long-enough (w .bytes) (a .legal) id; key = key; owner = owner; left = unit }
 
 -- A key that was set on u and left v, waited until w, was brought in and left x, and stayed in force until z: what an accepted 0x04 then answers
 module _ (u : TagUnit) (bytes : List ℕ) {v w x z : TagUnit} (done : KeySet u bytes v) (between : Waiting v w) (brought : BroughtIn w x)
@@ -101,11 +96,11 @@ module _ (u : TagUnit) (bytes : List ℕ) {v w x z : TagUnit} (done : KeySet u b
       later .owner (done .key)
       (ap ownerKey (brought .rest .3) ∙ between .owner (done .key) (ap (λ (y : TagUnit). ownerKey (y .accounts)) (done .left) ∙ done .owner))
 
-  same-bytes : (later-bytes : List ℕ) (room : ℕ) (answer : List ℕ) → getD later-bytes 0 0 ≡ 0x04 → step (writes later-bytes room) z .result ≡ gives answer
+  same-bytes : (recovering : Written) (room : ℕ) (answer : List ℕ) → getD (recovering .bytes) 0 0 ≡ 0x04 → step (writes recovering room) z .result ≡ gives answer
       → dataOf answer ≡ take 32 (dataOf bytes)
   unfolding parsed
-  same-bytes later-bytes room answer id e =
-      let a = accepted-write (record { bytes = later-bytes }) room z answer e in
+  same-bytes recovering room answer id e =
+      let a = accepted-write recovering room z answer e in
       let (used, owner, answered) = was-recovered (a .did) id in
       let same-key : used ≡ done .key = cc (owner-then) in
       answered
@@ -121,7 +116,7 @@ brought-in {lent} {u} (bringsIn formed held) = events .keyBroughtIn u lent forme
 pub recovery : Demand2Recovery
 unfolding after
 recovery s h C w room answer bytes setBy id result =
-    let first = writes (setBy .bytes) (setBy .room) in
+    let first = writes (setBy .sent) (setBy .room) in
     let last = calls disconnect (setBy .lent) in
     let u = after (setBy .before) (fresh s) in
     let v = step first u .unit in
@@ -131,8 +126,8 @@ recovery s h C w room answer bytes setBy id result =
     let then : (l : List Act) → after (setBy .before ++ (first ∷ setBy .between ++ (last ∷ l))) (fresh s) ≡ after l x =
     λ l. from (setBy .between ++ (last ∷ l)) ∙ after-append (setBy .between) (last ∷ l) v in
     let brought = subst (BringsIn last) (from (setBy .between)) (setBy .brought) in
-    let done = key-set (setBy .bytes) (setBy .room) u (setBy .accepted) in
-    same-bytes u (setBy .bytes) done
+    let done = key-set (setBy .sent) (setBy .room) u (setBy .accepted) in
+    same-bytes u (setBy .sent .bytes) done
     (still-waiting (setBy .between) v (subst (NoneIn (Accepts 0x02) (setBy .between)) (from []) (setBy .lastSet)) (held-then brought))
     (brought-in brought)
     (stays-in-force (setBy .later) x (subst (NoneIn (Accepts 0x03) (setBy .later)) (then []) (setBy .kept))

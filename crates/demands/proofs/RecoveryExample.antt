@@ -28,12 +28,13 @@ use Rattle.unit.proofs.Kept.{fresh-formed, issued-kept, spent-kept, accounts-ke
 use Rattle.provisioning.specs.Provisioning.{awaiting, ownedBy}
 use Rattle.tag.specs.Own.{keeping, pressed, broughtIn, disconnected}
 use Rattle.tag.specs.Calls.{read, button, accountKey, disconnect, own, guarded, call, Act, calls, act}
-use Rattle.demands.specs.History.{step, after, writes, Bytes, AllOfBytes}
+use Rattle.demands.specs.History.{step, after, sends, Bytes, AllOfBytes}
 use Rattle.demands.specs.Spelled.{tagFrom, requestFrom, keyAtPlace, OwnedWith}
 use Rattle.demands.specs.Accepted.{Serves, Open, First, answer, recoveryKeyOf, keyBlocks}
 use Rattle.demands.specs.Among.{Accepts, accepts, BringsIn, bringsIn}
 use Rattle.demands.specs.Recovery.{SetBy}
 use Rattle.demands.specs.RecoveryExample.{Given, provisioning, recovering, Shown, RecoveryExample}
+use Rattle.demands.proofs.MaskBits.{zero-bit}
 use Rattle.demands.proofs.OfBytes.{bytes-take, bytes-cons, bytes-append}
 use Rattle.demands.proofs.Histories.{after-append}
 use Rattle.demands.proofs.Formed.{formed as stays-formed}
@@ -109,13 +110,13 @@ module _ (s : Settings) (key C n₁ n₂ n₃ : List ℕ) (g : Given s key C n�
   third = withNonces (withIssued n₃ (consented .nonces)) consented
 
   abbrev start : List Act
-  start = calls (accountKey key) 0 ∷ calls (read n₁) 42 ∷ writes (requestFrom 0x01 key n₁ []) 42 ∷ calls (read n₂) 42 ∷ []
+  start = calls (accountKey key) 0 ∷ calls (read n₁) 42 ∷ sends (requestFrom 0x01 key n₁ []) 0 42 ∷ calls (read n₂) 42 ∷ []
 
   abbrev last : List Act
   last = calls button 42 ∷ calls (read n₃) 42 ∷ []
 
   abbrev end : List Act
-  end = writes (requestFrom 0x02 key n₂ C) 42 ∷ calls disconnect 0 ∷ last
+  end = sends (requestFrom 0x02 key n₂ C) 0 42 ∷ calls disconnect 0 ∷ last
 
   -- the one key held
   held-key : heldKeys (withNewKey key noAccounts) ≡ key ∷ []
@@ -153,11 +154,11 @@ module _ (s : Settings) (key C n₁ n₂ n₃ : List ℕ) (g : Given s key C n�
   owner-key : OwnedWith second key
   owner-key = (0, refl, at-first)
 
-  owns-it : step (writes (requestFrom 0x01 key n₁ []) 42) first .unit ≡ owned
+  owns-it : step (sends (requestFrom 0x01 key n₁ []) 0 42) first .unit ≡ owned
   owns-it =
-      let ready : Open first 42 = record { formed = first-formed; live = refl; fits = omega arith } in
+      let ready : Open first 0 42 = record { formed = first-formed; live = refl; fits = omega arith; within = λ i k. zero-bit i } in
       let only : First first 0x01 0 = (omega arith, λ i h. absurd (omega arith)) in
-      rw at-first at (serves-state first 42 0 {Left = λ (v : TagUnit). v ≡ withAccounts (ownedBy (keyAtPlace first 0) (first .accounts)) (spent first)} ready only refl .left)
+      rw at-first at (serves-state first 0 42 0 {Left = λ (v : TagUnit). v ≡ withAccounts (ownedBy (keyAtPlace first 0) (first .accounts)) (spent first)} ready only refl .left)
       ∙ ap (λ (a : Accounts). withAccounts a (spent first)) owner-first
 
   after-first : issuedNonces (owned .nonces) ≡ n₁ ∷ []
@@ -171,9 +172,9 @@ module _ (s : Settings) (key C n₁ n₂ n₃ : List ℕ) (g : Given s key C n�
   second-formed : wellFormed second ≡ true
   second-formed = issued-kept owned owned-formed n₂ (fits-both _ n₂ (g .long₂) second-fits)
 
-  sets-it : Serves (writes (requestFrom 0x02 key n₂ C) 42) second (answer second 0x02 key []) (λ (v : TagUnit). v ≡ awaited)
+  sets-it : Serves (sends (requestFrom 0x02 key n₂ C) 0 42) second (answer second 0x02 key []) (λ (v : TagUnit). v ≡ awaited)
   sets-it =
-      serves-key second 42 key C (record { formed = second-formed; live = refl; fits = omega arith }) owner-key refl (g .encryptedLong) refl
+      serves-key second 0 42 key C (record { formed = second-formed; live = refl; fits = omega arith; within = λ i k. zero-bit i }) owner-key refl (g .encryptedLong) refl
 
   awaited-formed : wellFormed awaited ≡ true
   awaited-formed = waiting-kept (spent second) (spent-kept second second-formed) (decryptedKey key C) refl
@@ -224,11 +225,11 @@ module _ (s : Settings) (key C n₁ n₂ n₃ : List ℕ) (g : Given s key C n�
   abbrev said : List ℕ
   said = answer third 0x04 (recoveryKeyOf third) (keyBlocks key (third .identity .bytes))
 
-  recovers-it : step (writes (recovering key C n₃) 42) third .result ≡ gives said
+  recovers-it : step (sends (recovering key C n₃) 0 42) third .result ≡ gives said
   unfolding decryptedKey
   recovers-it =
-      accepted .keyRecovered third 42 key
-      (record { formed = issued-kept consented consented-formed n₃ (fits-both _ n₃ (g .long₃) third-fits); live = refl; fits = omega arith }) (0, refl, at-first) refl
+      accepted .keyRecovered third 0 42 key
+      (record { formed = issued-kept consented consented-formed n₃ (fits-both _ n₃ (g .long₃) third-fits); live = refl; fits = omega arith; within = λ i k. zero-bit i }) (0, refl, at-first) refl
       (inl (omega arith)) .answered
 
   all-bytes : AllOfBytes (provisioning key C n₁ n₂ n₃)
@@ -239,10 +240,10 @@ module _ (s : Settings) (key C n₁ n₂ n₃ : List ℕ) (g : Given s key C n�
       (g .keyBytes, (g .bytes₁, (owning, (g .bytes₂, (setting, (none, (none, (g .bytes₃, tt))))))))
 
   -- the unit that the disconnect meets
-  waiting-then : after (start ++ (writes (requestFrom 0x02 key n₂ C) 42 ∷ [])) (fresh s) ≡ awaited
+  waiting-then : after (start ++ (sends (requestFrom 0x02 key n₂ C) 0 42 ∷ [])) (fresh s) ≡ awaited
   waiting-then =
-      after-append start (writes (requestFrom 0x02 key n₂ C) 42 ∷ []) (fresh s)
-      ∙ ap (after (writes (requestFrom 0x02 key n₂ C) 42 ∷ [])) before
+      after-append start (sends (requestFrom 0x02 key n₂ C) 0 42 ∷ []) (fresh s)
+      ∙ ap (after (sends (requestFrom 0x02 key n₂ C) 0 42 ∷ [])) before
       ∙ runs-after (next (sets-it .left) done)
 
   set-by : SetBy (fresh s) (provisioning key C n₁ n₂ n₃) C
@@ -251,7 +252,7 @@ module _ (s : Settings) (key C n₁ n₂ n₃ : List ℕ) (g : Given s key C n�
       let mark = tagFrom key n₂ 0x02 (8 + length C) C in
       record {
         before = start;
-        bytes = requestFrom 0x02 key n₂ C;
+        sent = record { bytes = requestFrom 0x02 key n₂ C; reach = 0 };
         room = 42;
         between = [];
         lent = 0;
@@ -267,13 +268,13 @@ module _ (s : Settings) (key C n₁ n₂ n₃ : List ℕ) (g : Given s key C n�
 
   shown : Shown s key C n₁ n₂ n₃
   shown =
-      let result : step (writes (recovering key C n₃) 42) (after (provisioning key C n₁ n₂ n₃) (fresh s)) .result ≡ gives said =
+      let result : step (sends (recovering key C n₃) 0 42) (after (provisioning key C n₁ n₂ n₃) (fresh s)) .result ≡ gives said =
       rw all recovers-it in
       record {
         bytes = all-bytes;
         setBy = set-by;
         recovers = refl;
-        accepted = (said, result, recovery s (provisioning key C n₁ n₂ n₃) C (recovering key C n₃) 42 said all-bytes set-by refl result);
+        accepted = (said, result, recovery s (provisioning key C n₁ n₂ n₃) C (record { bytes = recovering key C n₃; reach = 0 }) 42 said all-bytes set-by refl result);
       }
 
 replicate-bytes : (n x : ℕ) → x < 256 → Bytes (replicate n x)

@@ -11,11 +11,11 @@ use Rattle.unit.specs.Outcome.{Outcome, refusing}
 use Rattle.authentication.specs.Judgement.{Judgement, accepts, rejects, concluded}
 use Rattle.requests.specs.Write.{judged, written}
 use Rattle.tag.specs.Calls.{own, guarded, call, act}
-use Rattle.demands.specs.History.{step, writes}
-use Rattle.demands.specs.Spelled.{OnlySpends}
+use Rattle.demands.specs.History.{step, sends}
+use Rattle.demands.specs.Spelled.{NoBitOutside, OnlySpends}
 use Rattle.demands.specs.RecordLines.{RecordLines}
 use Rattle.demands.specs.Refused.{Reason, RefusedWith, Refused}
-use Rattle.demands.proofs.Judging.{opened}
+use Rattle.demands.proofs.Judging.{opened, reach-passes}
 use Rattle.demands.proofs.RecordLines.{well-formed-exactly}
 use Rattle.demands.proofs.Refusing.{reason-refuses}
 use Rattle.demands.proofs.Reasons.{reason-found}
@@ -28,33 +28,34 @@ only-spends u =
     }
 
 -- The write of these bytes
-module _ (u : TagUnit) (room : ℕ) (w : List ℕ) (n : ℕ) (right : wellFormed u ≡ true) (fits : 42 ≤ room) where
-  step-is : step (writes w room) u ≡ concluded (spent u) (judged u w)
-  unfolding act call guarded own written
-  step-is = opened u room (written u w) right fits
+module _ (u : TagUnit) (reach room : ℕ) (w : List ℕ) (n : ℕ) (right : wellFormed u ≡ true) (fits : 42 ≤ room)
+    (within : NoBitOutside (u .settings .components) reach) where
+  step-is : step (sends w reach room) u ≡ concluded (spent u) (judged u w reach)
+  unfolding act call guarded own
+  step-is = opened u room (written u w reach) right fits ∙ reach-passes u w reach within
 
   lines-of : RecordLines u
   lines-of = well-formed-exactly .met u right
 
-  pub write-refused : Reason u w n → RefusedWith n u (step (writes w room) u)
+  pub write-refused : Reason u w n → RefusedWith n u (step (sends w reach room) u)
   write-refused r =
-      let e : step (writes w room) u ≡ refusing n (spent u) = step-is ∙ rw (reason-refuses u w lines-of r) in
+      let e : step (sends w reach room) u ≡ refusing n (spent u) = step-is ∙ rw (reason-refuses u w reach lines-of r) in
       record { number = rw e; unit = rw e (only-spends u) }
 
-  pub only-for-a-reason : step (writes w room) u .result ≡ refuses n → Reason u w n
-  only-for-a-reason e = reason-found u w lines-of n (go (judged u w) (sym (ap (λ (o : Outcome). o .result) step-is) ∙ e))
+  pub only-for-a-reason : step (sends w reach room) u .result ≡ refuses n → Reason u w n
+  only-for-a-reason e = reason-found u w reach lines-of n (go (judged u w reach) (sym (ap (λ (o : Outcome). o .result) step-is) ∙ e))
     where
       go : (j : Judgement) → concluded (spent u) j .result ≡ refuses n → j ≡ rejects n
       go (accepts v answer) h = cc
       go (rejects m) h = cc
 
-else-served : (u : TagUnit) (room : ℕ) (w : List ℕ) → wellFormed u ≡ true → 42 ≤ room → ((n : ℕ) → Reason u w n → ⊥)
-    → (answer : List ℕ) × (step (writes w room) u .result ≡ gives answer)
-else-served u room w right fits none = go (step (writes w room) u .result) refl
+else-served : (u : TagUnit) (reach room : ℕ) (w : List ℕ) → wellFormed u ≡ true → 42 ≤ room → NoBitOutside (u .settings .components) reach → ((n : ℕ) → Reason u w n → ⊥)
+    → (answer : List ℕ) × (step (sends w reach room) u .result ≡ gives answer)
+else-served u reach room w right fits within none = go (step (sends w reach room) u .result) refl
   where
-    go : (r : Result) → step (writes w room) u .result ≡ r → (answer : List ℕ) × (step (writes w room) u .result ≡ gives answer)
+    go : (r : Result) → step (sends w reach room) u .result ≡ r → (answer : List ℕ) × (step (sends w reach room) u .result ≡ gives answer)
     go (gives answer) e = (answer, e)
-    go (refuses n) e = absurd (none n (only-for-a-reason u room w n right fits e))
+    go (refuses n) e = absurd (none n (only-for-a-reason u reach room w n right fits within e))
 
 pub refused : Refused
 refused = record { refused = write-refused; onlyThen = only-for-a-reason; served = else-served }

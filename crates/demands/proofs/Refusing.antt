@@ -62,18 +62,18 @@ under-refused : (o : Option (List ℕ)) (g : List ℕ → Judgement) → ((key :
 under-refused (some key) g h = h key
 under-refused none g h = refl
 
-module _ (u : TagUnit) (w : List ℕ) (l : RecordLines u) where
+module _ (u : TagUnit) (w : List ℕ) (reach : ℕ) (l : RecordLines u) where
   module _ {id size : ℕ} {tag additional : List ℕ} (s : Sent w id size tag additional) where
-    judged-as : judged u w
-        ≡ cond (u .nonces .live) (cond (ltb id 3 || u .identity .held) (byId (spent u) (requestOf id size tag additional)) (rejects 0x80)) (rejects 0x80)
+    judged-as : judged u w reach
+        ≡ cond (u .nonces .live) (cond (ltb id 3 || u .identity .held) (byId (spent u) (requestOf id size tag additional) reach) (rejects 0x80)) (rejects 0x80)
     unfolding judged
     judged-as = rw (sent-legal s, sent-parts s)
 
-    unauthenticated : byId (spent u) (requestOf id size tag additional) ≡ rejects 0x80 → judged u w ≡ rejects 0x80
+    unauthenticated : byId (spent u) (requestOf id size tag additional) reach ≡ rejects 0x80 → judged u w reach ≡ rejects 0x80
     unauthenticated e = judged-as ∙ rw e (rw (same-either (ltb id 3 || u .identity .held)) (same-either (u .nonces .live) (rejects 0x80)))
 
-    after-tag : (n : ℕ) → u .nonces .live ≡ true → u .identity .held ≡ true → byId (spent u) (requestOf id size tag additional) ≡ rejects n
-        → judged u w ≡ rejects n
+    after-tag : (n : ℕ) → u .nonces .live ≡ true → u .identity .held ≡ true → byId (spent u) (requestOf id size tag additional) reach ≡ rejects n
+        → judged u w reach ≡ rejects n
     after-tag n live held e = judged-as ∙ rw (live, or-right (ltb id 3) held, e)
 
   -- 0x00 and 0x01: the tag of no held key
@@ -89,7 +89,7 @@ module _ (u : TagUnit) (w : List ℕ) (l : RecordLines u) where
 
   nobodys : {id size : ℕ} (tag additional : List ℕ) → LegalLength id size → id ≤ 0x01
       → ((p : ℕ) → p < u .accounts .count → tag ≡ tagFrom (keyAtPlace u p) (u .nonces .newest) id size additional → ⊥)
-      → byId (spent u) (requestOf id size tag additional) ≡ rejects 0x80
+      → byId (spent u) (requestOf id size tag additional) reach ≡ rejects 0x80
   unfolding byId readParameters readState
   nobodys tag additional ofParameters low h = rw (unmatched 0x00 tag additional h)
   nobodys tag additional ofState low h = rw (unmatched 0x01 tag additional h)
@@ -109,7 +109,7 @@ module _ (u : TagUnit) (w : List ℕ) (l : RecordLines u) where
   ownerless q e = rw e
 
   set-by-nobody : (size : ℕ) (tag additional : List ℕ) → u .accounts .owner ≡ Owner.Nobody
-      → byId (spent u) (requestOf 0x02 size tag additional) ≡ rejects 0x80
+      → byId (spent u) (requestOf 0x02 size tag additional) reach ≡ rejects 0x80
   unfolding byId setKey
   set-by-nobody size tag additional e = rw (ownerless (requestOf 0x02 size tag additional) e)
 
@@ -137,7 +137,7 @@ module _ (u : TagUnit) (w : List ℕ) (l : RecordLines u) where
 
   wrong-tag : {id : ℕ} {key : List ℕ} (size : ℕ) (tag additional : List ℕ) → Signer u id key → (Skipped u id → ⊥)
       → tagged key (u .nonces .newest) (requestOf id size tag additional) ≡ false
-      → byId (spent u) (requestOf id size tag additional) ≡ rejects 0x80
+      → byId (spent u) (requestOf id size tag additional) reach ≡ rejects 0x80
   unfolding byId setKey clearKey recoverKey ring readSound protect unprotect derivedKey
   wrong-tag size tag additional (setsKey {key} o) unskipped t = rw (not-owners (requestOf 0x02 size tag additional) key o t)
   wrong-tag size tag additional (clears {key} o) unskipped t = rw (not-owners (requestOf 0x03 size tag additional) key o t)
@@ -149,7 +149,7 @@ module _ (u : TagUnit) (w : List ℕ) (l : RecordLines u) where
 
   -- 0x02: a proof where no key is held, none where one is, and a wrong one
   not-replaced : (size : ℕ) (tag additional : List ℕ) → mayReplace (spent u) (requestOf 0x02 size tag additional) ≡ false
-      → byId (spent u) (requestOf 0x02 size tag additional) ≡ rejects 0x80
+      → byId (spent u) (requestOf 0x02 size tag additional) reach ≡ rejects 0x80
   unfolding byId setKey
   not-replaced size tag additional e =
       under-refused (signedByOwner (spent u) (requestOf 0x02 size tag additional)) _ (λ key. rw e)
@@ -169,7 +169,7 @@ module _ (u : TagUnit) (w : List ℕ) (l : RecordLines u) where
 
   -- 0x03 and 0x08
   wrong-proof : {id size : ℕ} (tag additional : List ℕ) → LegalLength id size → size ≡ 16
-      → (additional ≡ proofFrom (u .identity .bytes) (u .nonces .newest) → ⊥) → byId (spent u) (requestOf id size tag additional) ≡ rejects 0x80
+      → (additional ≡ proofFrom (u .identity .bytes) (u .nonces .newest) → ⊥) → byId (spent u) (requestOf id size tag additional) reach ≡ rejects 0x80
   unfolding byId clearKey unprotect
   wrong-proof tag additional ofParameters n h = absurd (omega arith)
   wrong-proof tag additional ofState n h = absurd (omega arith)
@@ -188,12 +188,12 @@ module _ (u : TagUnit) (w : List ℕ) (l : RecordLines u) where
   -- Values, and consent, after the tag
   ring-refused : (size mask high low volume : ℕ) (tag : List ℕ) → IllegalRing (u .settings .components) mask high low volume
       → skips (u .protection) || tagged (derivedKey 0x02 (u .identity .bytes)) (u .nonces .newest) (requestOf 0x05 size tag (mask ∷ high ∷ low ∷ volume ∷ [])) ≡ true
-      → byId (spent u) (requestOf 0x05 size tag (mask ∷ high ∷ low ∷ volume ∷ [])) ≡ rejects 0x81
+      → byId (spent u) (requestOf 0x05 size tag (mask ∷ high ∷ low ∷ volume ∷ [])) reach ≡ rejects 0x81
   unfolding byId ring
   ring-refused size mask high low volume tag fault t = rw (t, values-refused (u .settings) mask high low volume fault)
 
   wrong-ring : {mask high low volume : ℕ} → Tagged u w 0x05 (mask ∷ high ∷ low ∷ volume ∷ [])
-      → IllegalRing (u .settings .components) mask high low volume → judged u w ≡ rejects 0x81
+      → IllegalRing (u .settings .components) mask high low volume → judged u w reach ≡ rejects 0x81
   unfolding derivedKey
   wrong-ring {mask} {high} {low} {volume} (signed {size} {tag} s live held rings e) fault =
       after-tag s 0x81 live held
@@ -202,7 +202,7 @@ module _ (u : TagUnit) (w : List ℕ) (l : RecordLines u) where
   wrong-ring {mask} {high} {low} {volume} (skipped {size} {tag} s live held k) fault =
       after-tag s 0x81 live held (ring-refused size mask high low volume tag fault (or-left _ (ap skips (k .1))))
 
-  wrong-flag : {flag : ℕ} → Tagged u w 0x07 (flag ∷ []) → 1 < flag → judged u w ≡ rejects 0x81
+  wrong-flag : {flag : ℕ} → Tagged u w 0x07 (flag ∷ []) → 1 < flag → judged u w reach ≡ rejects 0x81
   unfolding byId protect derivedKey
   wrong-flag {flag} (signed {size} {tag} s live held protects e) high =
       after-tag s 0x81 live held
@@ -214,14 +214,14 @@ module _ (u : TagUnit) (w : List ℕ) (l : RecordLines u) where
       let left : ltb 0 (u .consent) ≡ false = le-ltb 0 (u .consent) (omega arith) in
       cc
 
-  no-consent : Tagged u w 0x04 [] → u .consent ≡ 0 → u .pairing ≡ false → judged u w ≡ rejects 0x82
+  no-consent : Tagged u w 0x04 [] → u .consent ≡ 0 → u .pairing ≡ false → judged u w reach ≡ rejects 0x82
   unfolding byId recoverKey derivedKey
   no-consent (signed {size} {tag} s live held recovers e) none-left off =
       after-tag s 0x82 live held
       (rw (owned-by-some held .1, tag-passes (keyFrom 0x01 (u .identity .bytes)) (u .nonces .newest) 0x04 size tag [] e, neither none-left off))
   no-consent (skipped s live held k) none-left off = absurd (omega (arith, k .0))
 
-  pub reason-refuses : {n : ℕ} → Reason u w n → judged u w ≡ rejects n
+  pub reason-refuses : {n : ℕ} → Reason u w n → judged u w reach ≡ rejects n
   unfolding judged
   reason-refuses (illegalShape h) = rw (fails (shapeLegal w) (λ e. h _ _ _ _ (legal-sent w e)))
   reason-refuses (noLiveNonce s e) = judged-as s ∙ rw e

@@ -8,7 +8,7 @@ use Rattle.unit.specs.declared.Settings.{Settings}
 use Rattle.unit.specs.declared.Identity.{Identity}
 use Rattle.unit.specs.Change.{fresh}
 use Rattle.unit.proofs.Lines.{lines, ring-held}
-use Rattle.tag.specs.Calls.{Act}
+use Rattle.tag.specs.Calls.{Written, Act}
 use Rattle.demands.specs.History.{step, after, writes}
 use Rattle.demands.specs.Nonces.{Issue}
 use Rattle.demands.specs.Time.{World, start, slept, ran, runs}
@@ -18,25 +18,25 @@ use Rattle.demands.proofs.Histories.{after-append}
 use Rattle.demands.proofs.Nonces.{nonces}
 use Rattle.demands.proofs.RingTenths.{silent-call, ringing-call, ending-call}
 use Rattle.demands.proofs.CallsOnSound.{time-passes}
-use Rattle.demands.proofs.RingStarts.{begun, start-formed}
+use Rattle.demands.proofs.RingStarts.{begun, start-formed, start-succeeds}
 use Rattle.demands.proofs.RingRuns.{ran-unit, next-formed, ring-run}
 
 -- From whatever a run has come to
-lasting : (w : World) (bytes : List ℕ) (room : ℕ) (l : List Act) → Starts bytes room (w .unit)
-    → NoneIn Disturbs l (step (writes bytes room) (w .unit) .unit)
-    → Lasts (askedIn bytes) (w .unit .identity .bytes) (w .unit .nonces .newest) (tenthsIn l)
-    (runs slept (writes bytes room ∷ []) w)
-    (runs slept (writes bytes room ∷ l) w)
+lasting : (w : World) (ring : Written) (room : ℕ) (l : List Act) → Starts ring room (w .unit)
+    → NoneIn Disturbs l (step (writes ring room) (w .unit) .unit)
+    → Lasts (askedIn (ring .bytes)) (w .unit .identity .bytes) (w .unit .nonces .newest) (tenthsIn l)
+    (runs slept (writes ring room ∷ []) w)
+    (runs slept (writes ring room ∷ l) w)
 unfolding runs
-lasting w bytes room l s free =
-    let a = writes bytes room in
+lasting w ring room l s free =
+    let a = writes ring room in
     let v = ran slept a w in
     let unit = ran-unit a w in
-    let b = begun (w .unit) bytes room s in
+    let b = begun (w .unit) ring room s in
     let ringing = ap (λ (x : TagUnit). x .sound) unit ∙ b .sounds in
     let g =
-    ring-run (b .mask) (b .volume) (w .unit .identity .bytes) (w .unit .nonces .newest) l v (askedIn bytes)
-    (next-formed a w (start-formed (w .unit) bytes room s))
+    ring-run (b .mask) (b .volume) (w .unit .identity .bytes) (w .unit .nonces .newest) l v (askedIn (ring .bytes))
+    (next-formed a w (start-formed (w .unit) ring room s))
     (record {
       ringing = ringing;
       key = ap (λ (x : TagUnit). x .identity .bytes) unit ∙ ap (λ (x : Identity). x .bytes) (b .identity);
@@ -73,23 +73,23 @@ same-ring {t} {n} {identity} {i} {nonce} {m} {v} {x} {z} {y} p q r s l =
     (subst (λ (c : World). Lasts t i m n c z) r
     (subst (λ (b : List ℕ). Lasts t i b n v z) q (subst (λ (a : List ℕ). Lasts t a nonce n v z) p l)))
 
-as-read : (s : Settings) (h : List Act) (bytes : List ℕ) (room : ℕ) (l : List Act) → Starts bytes room (after h (fresh s))
-    → NoneIn Disturbs l (after (h ++ (writes bytes room ∷ [])) (fresh s))
+as-read : (s : Settings) (h : List Act) (ring : Written) (room : ℕ) (l : List Act) → Starts ring room (after h (fresh s))
+    → NoneIn Disturbs l (after (h ++ (writes ring room ∷ [])) (fresh s))
     → (nonce : List ℕ)
     × Issue (fresh s) h nonce
-    × Lasts (askedIn bytes) (after h (fresh s) .identity .bytes) nonce (tenthsIn l)
-    (runs slept (h ++ (writes bytes room ∷ [])) (start (fresh s)))
-    (runs slept (h ++ (writes bytes room ∷ l)) (start (fresh s)))
+    × Lasts (askedIn (ring .bytes)) (after h (fresh s) .identity .bytes) nonce (tenthsIn l)
+    (runs slept (h ++ (writes ring room ∷ [])) (start (fresh s)))
+    (runs slept (h ++ (writes ring room ∷ l)) (start (fresh s)))
 unfolding after
-as-read s h bytes room l starts free =
-    let a = writes bytes room in
+as-read s h ring room l starts free =
+    let a = writes ring room in
     let w = runs slept h (start (fresh s)) in
     let unit : w .unit ≡ after h (fresh s) = runs-unit h (start (fresh s)) in
-    let found = nonces .own s h (record { bytes = bytes }) room (starts .accepted) in
+    let found = nonces .own s h ring room (start-succeeds (after h (fresh s)) ring room starts) in
     let free-there : NoneIn Disturbs l (step a (after h (fresh s)) .unit)
     = subst (λ (x : TagUnit). NoneIn Disturbs l x) (after-append h (a ∷ []) (fresh s)) free in
-    let ring =
-    lasting w bytes room l (subst (λ (x : TagUnit). Starts bytes room x) (sym unit) starts)
+    let lasts =
+    lasting w ring room l (subst (λ (x : TagUnit). Starts ring room x) (sym unit) starts)
     (subst (λ (x : TagUnit). NoneIn Disturbs l (step a x .unit)) (sym unit) free-there) in (
       found .0,
       found .1,
@@ -97,7 +97,7 @@ as-read s h bytes room l starts free =
           (ap (λ (x : TagUnit). x .nonces .newest) unit ∙ nonces .whose s h (found .0) (found .1))
           (sym (runs-append h (a ∷ []) (start (fresh s))))
           (sym (runs-append h (a ∷ l) (start (fresh s))))
-          ring,
+          lasts,
     )
 
 pub ring-lasts : RingLasts

@@ -2,13 +2,14 @@
 -- until none is (RingTenths), and silence then stays.
 use Prim.Native.Nat.{ℕ, _+_, _-_, _≤_, _<_}
 use mathlib.Core.Path.{_≡_, refl, sym, ap, subst, _∙_}
-use mathlib.Core.Bool.{Bool, true, false}
+use mathlib.Core.Bool.{Bool, true, false, cond}
 use mathlib.Core.List.{List, [], _∷_, _++_, append-nil}
 use native.Mathlib.Omega.{arith}
 use native.Mathlib.Decide.{decLt}
-use lib.Dec.{leb}
-use lib.ListN.{replicate}
+use lib.Dec.{eqb, leb}
+use lib.ListN.{getD, replicate}
 use borrow.Author.Tests.{leb-true, leb-false}
+use Rattle.wire.specs.Signing.{signed, answerTag}
 use Rattle.unit.specs.declared.TagUnit.{TagUnit}
 use Rattle.unit.specs.declared.Identity.{Identity}
 use Rattle.unit.specs.declared.Sound.{Sound}
@@ -18,12 +19,29 @@ use Rattle.unit.proofs.Lines.{lines, ring-held}
 use Rattle.time.specs.Time.{tenths}
 use Rattle.tag.specs.Calls.{Call, Act, calls, waits}
 use Rattle.demands.specs.History.{step}
-use Rattle.demands.specs.Time.{World, at, bytesGiven, called, slept, ran, runs}
+use Rattle.demands.specs.Time.{Notification, World, at, bytesGiven, noticed, called, slept, ran, runs}
 use Rattle.demands.specs.Among.{NoneIn, tenthsIn}
-use Rattle.demands.specs.RingLasts.{timeoutFrom, Disturbs, pressed, rung as ringAgain, cleared as keyCleared, broughtIn as newKey}
+use Rattle.demands.specs.Spelled.{keyFrom}
+use Rattle.demands.specs.RingLasts.{timeoutFrom, unfailed, Disturbs, pressed, rung as ringAgain, cleared as keyCleared, broughtIn as newKey}
 use Rattle.demands.proofs.Formed.{formed}
+use Rattle.demands.proofs.Judging.{status-signed}
+use Rattle.demands.proofs.WritesOnSound.{Left}
 use Rattle.demands.proofs.RingTenths.{silent-call, ringing-call, ending-call}
-use Rattle.demands.proofs.CallsOnSound.{Calm, Does, calmly, pressedSilent, pressedRinging, rung, cleared, broughtIn, call-does, tenthsOf, begins, time-passes, time-stands}
+use Rattle.demands.proofs.CallsOnSound.{Calm, Does, calmly, pressedSilent, pressedRinging, rung, failed, cleared, broughtIn, call-does, tenthsOf, begins, time-passes, time-stands}
+
+-- Notices but of failures, of two lists one behind the other; that of a timeout is one of them
+unfailed-append : (xs ys : List Notification) → unfailed (xs ++ ys) ≡ unfailed xs ++ unfailed ys
+unfailed-append [] ys = refl
+unfailed-append (x ∷ xs) ys = go (eqb (getD (x .notice) 10 0) 1) (unfailed-append xs ys)
+  where
+    go : (b : Bool) → unfailed (xs ++ ys) ≡ unfailed xs ++ unfailed ys
+        → cond b (unfailed (xs ++ ys)) (x ∷ unfailed (xs ++ ys)) ≡ cond b (unfailed xs) (x ∷ unfailed xs) ++ unfailed ys
+    go true e = e
+    go false e = ap (λ (l : List Notification). x ∷ l) e
+
+timeout-heard : (identity nonce : List ℕ) (t : ℕ) → unfailed (at t (timeoutFrom identity nonce)) ≡ at t (timeoutFrom identity nonce)
+unfolding signed answerTag
+timeout-heard identity nonce t = rw (status-signed (keyFrom 0x02 identity) nonce 0x05 2 (0 ∷ 0 ∷ 0 ∷ []))
 
 -- A world that an act left as it was, as far as the ring and its notices go
 record Idle (v w : World) : Type 0 where
@@ -31,7 +49,7 @@ record Idle (v w : World) : Type 0 where
   ringNonce : w .unit .«ring_nonce» ≡ v .unit .«ring_nonce»
   identity : w .unit .identity ≡ v .unit .identity
   count : w .count ≡ v .count
-  notices : w .notifications ≡ v .notifications
+  notices : unfailed (w .notifications) ≡ unfailed (v .notifications)
 
 -- or in which n tenths passed
 record Later (n : ℕ) (v w : World) : Type 0 where
@@ -54,12 +72,25 @@ calm-idle c room v calm =
       notices = rw (calm .quiet, append-nil);
     }
 
+failed-idle : (c : Call) (room : ℕ) (v : World) → Left (v .unit) (step (calls c room) (v .unit) .unit)
+    → ((t : ℕ) → unfailed (at t (noticed (step (calls c room) (v .unit) .result))) ≡ []) → Idle v (called c room v)
+unfolding called
+failed-idle c room v leaves unheard =
+    record {
+      sound = leaves .sound;
+      ringNonce = leaves .ringNonce;
+      identity = leaves .identity;
+      count = refl;
+      notices = unfailed-append (v .notifications) _ ∙ rw (unheard (v .count), append-nil);
+    }
+
 call-turn : (c : Call) (room : ℕ) (v : World) → Does (calls c room) (v .unit) → (Disturbs (calls c room) (v .unit) → ⊥) → Turn (calls c room) v
 unfolding ran
 call-turn c room v (calmly calm) free = idle refl (calm-idle c room v calm)
 call-turn c room v (pressedSilent p s) free = absurd (free (pressed p))
 call-turn c room v (pressedRinging p e) free = absurd (free (pressed p))
-call-turn c room v (rung a e) free = absurd (free (ringAgain a))
+call-turn c room v (rung a unfails e) free = absurd (free (ringAgain a unfails))
+call-turn c room v (failed leaves unheard) free = idle refl (failed-idle c room v leaves unheard)
 call-turn c room v (cleared a e) free = absurd (free (keyCleared a))
 call-turn c room v (broughtIn b e) free = absurd (free (newKey b))
 
@@ -103,7 +134,7 @@ next-free a l v free = subst (λ (x : TagUnit). NoneIn Disturbs l x) (sym (ran-u
 record Silence (v z : World) : Type 0 where
   silent : z .unit .sound ≡ Sound.Silent
   ringNonce : z .unit .«ring_nonce» ≡ v .unit .«ring_nonce»
-  notices : z .notifications ≡ v .notifications
+  notices : unfailed (z .notifications) ≡ unfailed (v .notifications)
 
 silent-turn : {a : Act} {v z : World} → Turn a v → v .unit .sound ≡ Sound.Silent → (ran slept a v .unit .sound ≡ Sound.Silent → Silence (ran slept a v) z)
     → Silence v z
@@ -117,7 +148,7 @@ silent-turn {a} {v} {z} (later n t i) e rest =
     record {
       silent = r .silent;
       ringNonce = r .ringNonce ∙ ap (λ (x : TagUnit). x .«ring_nonce») (i .unit) ∙ c .rest .7;
-      notices = r .notices ∙ none;
+      notices = r .notices ∙ ap unfailed none;
     }
 
 silent-run : (l : List Act) (v : World) → wellFormed (v .unit) ≡ true → v .unit .sound ≡ Sound.Silent → NoneIn Disturbs l (v .unit)
@@ -132,10 +163,10 @@ silent-run (a ∷ l) v w e free =
 pub record Goes (mask volume left : ℕ) (identity nonce : List ℕ) (n : ℕ) (v z : World) : Type 0 where
   pub onSound : n < left → z .unit .sound ≡ Sound.Ringing mask volume (left - n)
   pub onNonce : n < left → z .unit .«ring_nonce» ≡ nonce
-  pub onNotices : n < left → z .notifications ≡ v .notifications
+  pub onNotices : n < left → unfailed (z .notifications) ≡ unfailed (v .notifications)
   pub overSound : left ≤ n → z .unit .sound ≡ Sound.Silent
   pub overNonce : left ≤ n → z .unit .«ring_nonce» ≡ replicate 8 0
-  pub overNotices : left ≤ n → z .notifications ≡ v .notifications ++ at (v .count + left) (timeoutFrom identity nonce)
+  pub overNotices : left ≤ n → unfailed (z .notifications) ≡ unfailed (v .notifications) ++ at (v .count + left) (timeoutFrom identity nonce)
 
 -- a world in which such a ring sounds
 pub record Sounds (mask volume left : ℕ) (identity nonce : List ℕ) (v : World) : Type 0 where
@@ -158,7 +189,7 @@ module _ (mask volume : ℕ) (identity nonce : List ℕ) (a : Act) (v z : World)
       }
 
   -- m tenths passed, fewer than were left
-  after-some : {left n : ℕ} (m : ℕ) → n ≡ m + k → m < left → ran slept a v .count ≡ v .count + m → ran slept a v .notifications ≡ v .notifications
+  after-some : {left n : ℕ} (m : ℕ) → n ≡ m + k → m < left → ran slept a v .count ≡ v .count + m → unfailed (ran slept a v .notifications) ≡ unfailed (v .notifications)
       → Goes mask volume (left - m) identity nonce k (ran slept a v) z
       → Goes mask volume left identity nonce n v z
   after-some {left} {n} m same more count notices g =
@@ -174,7 +205,7 @@ module _ (mask volume : ℕ) (identity nonce : List ℕ) (a : Act) (v z : World)
 
   -- m tenths passed, as many as were left or more
   after-all : {left n : ℕ} (m : ℕ) → n ≡ m + k → left ≤ m → ran slept a v .unit .«ring_nonce» ≡ replicate 8 0
-      → ran slept a v .notifications ≡ v .notifications ++ at (v .count + left) (timeoutFrom identity nonce)
+      → unfailed (ran slept a v .notifications) ≡ unfailed (v .notifications) ++ at (v .count + left) (timeoutFrom identity nonce)
       → Silence (ran slept a v) z
       → Goes mask volume left identity nonce n v z
   after-all {left} {n} m same enough ringNonce notices s =
@@ -201,7 +232,8 @@ module _ (mask volume : ℕ) (identity nonce : List ℕ) (a : Act) (l : List Act
       go : Dec (m < left) → Goes mask volume left identity nonce (tenthsIn (a ∷ l)) v z
       go (yes more) =
           let o = ringing-call m (v .unit) (s .ringing) more in
-          after-some mask volume identity nonce a v z (tenthsIn l) m total more (i .count) (i .notices ∙ rw (o .nothing, append-nil))
+          let none : ran slept a v .notifications ≡ v .notifications = i .notices ∙ rw (o .nothing, append-nil) in
+          after-some mask volume identity nonce a v z (tenthsIn l) m total more (i .count) (ap unfailed none)
           (rest (left - m)
           (record {
             ringing = ap (λ (x : TagUnit). x .sound) (i .unit) ∙ o .sounds;
@@ -213,7 +245,9 @@ module _ (mask volume : ℕ) (identity nonce : List ℕ) (a : Act) (l : List Act
           let o = ending-call m (v .unit) (s .ringing) some all in
           after-all mask volume identity nonce a v z (tenthsIn l) m total all
           (ap (λ (x : TagUnit). x .«ring_nonce») (i .unit) ∙ o .nonce)
-          (i .notices ∙ rw (o .notice, o .ended, s .key, s .tagged))
+          (ap unfailed (i .notices)
+          ∙ unfailed-append (v .notifications) _
+          ∙ rw (o .notice, o .ended, s .key, s .tagged) (ap (λ (l : List Notification). unfailed (v .notifications) ++ l) (timeout-heard identity nonce (v .count + left))))
           (silence (ap (λ (x : TagUnit). x .sound) (i .unit) ∙ o .silent))
 
   ring-turn : {left : ℕ} → Turn a v → 1 ≤ left → Sounds mask volume left identity nonce v

@@ -1,27 +1,28 @@
--- An accepted 0x05 whose mask byte is not 0 starts a ring, with the tenths that its two bytes say, the nonce that the unit had and the key
--- that it has.
+-- An accepted 0x05 whose notice says so starts a ring, with the tenths that its two bytes say, the nonce that the unit had and the key that it
+-- has.
 use Prim.Native.Nat.{ℕ, _+_, _*_, _≤_}
-use mathlib.Core.Path.{_≡_, refl, sym, ap, _∙_}
-use mathlib.Core.Bool.{Bool, true, false, not}
+use mathlib.Core.Path.{_≡_, sym, ap, _∙_}
+use mathlib.Core.Bool.{true}
 use mathlib.Core.List.{List, [], _∷_}
 use native.Mathlib.Omega.{arith}
 use lib.Dec.{eqb, leb}
 use lib.ListN.{length, getD, take, drop, length-drop}
 use lib.Seq.{getD-drop}
-use borrow.Author.Tests.{eqb-true, eq-eqb}
+use borrow.Author.Tests.{eqb-true}
 use Rattle.laws.specs.Bytes.{number, numberAfter}
-use Rattle.laws.proofs.Flags.{and-left, and-right, or-false, clash}
+use Rattle.laws.proofs.Flags.{and-left, and-right, or-false}
 use Rattle.wire.specs.Shape.{parsed, shapeLegal, sizeLegal, legalSizes, oneOf}
 use Rattle.unit.specs.declared.TagUnit.{TagUnit}
-use Rattle.unit.specs.declared.Settings.{Settings}
 use Rattle.unit.specs.declared.Sound.{Sound}
 use Rattle.unit.specs.WellFormed.{wellFormed}
-use Rattle.unit.specs.Ringable.{ringable, inside}
 use Rattle.unit.specs.Change.{spent}
-use Rattle.ringing.specs.Ringing.{ringLegal, ringMask, heldVolume, askedMask, askedTimeout, allOfNone, wholeMask}
+use Rattle.ringing.specs.Ringing.{heldVolume, askedTimeout, reached}
+use Rattle.tag.specs.Calls.{Written}
 use Rattle.demands.specs.History.{step, writes}
+use Rattle.demands.specs.Nonces.{Succeeds}
+use Rattle.demands.specs.Among.{notifies}
 use Rattle.demands.specs.RingLasts.{Starts, askedIn}
-use Rattle.demands.proofs.WritesOnSound.{Effect, apart, rings, stops, clears, admitted}
+use Rattle.demands.proofs.WritesOnSound.{Effect, apart, rings, stops, fails, clears, admitted}
 
 -- a ring that this unit has begun: the nonce and the key are those of the unit before
 pub record Begun (u v : TagUnit) (t : ℕ) : Type 0 where
@@ -54,37 +55,30 @@ asked-tenths w h =
     two-bytes (drop 10 w) (omega (arith, length-drop 10 w))
     ∙ rw (getD-drop 10 w 1 0, getD-drop 10 w 2 0)
 
--- a mask that is asked for is not none
-mask-some : (s : Settings) (a : List ℕ) → ringLegal s a ≡ true → (askedMask a ≡ 0 → ⊥) → ringMask s a ≡ 0 → ⊥
-unfolding ringLegal
-mask-some s a legal some none = go (eqb (askedMask a) wholeMask) refl
-  where
-    go : (b : Bool) → eqb (askedMask a) wholeMask ≡ b → ⊥
-    go true e =
-        let empty : ringable (s .components) ≡ 0 = rw e at none in
-        let all : allOfNone s a ≡ true = rw (e, eq-eqb (ringable (s .components)) 0 empty) in
-        clash (and-left _ _ (and-right (inside (ringMask s a) (s .components)) _ legal)) (ap not all)
-    go false e = some (rw e at none)
-
-module _ (u v : TagUnit) (w : List ℕ) (answer : List ℕ) (long : length w ≡ 14) (ring : getD w 0 0 ≡ 0x05) (some : getD w 10 0 ≡ 0 → ⊥) where
-  effect-begun : Effect (spent u) (parsed w) v answer → Begun u v (askedIn w)
+module _ (u v : TagUnit) (w : Written) (answer : List ℕ) (long : length (w .bytes) ≡ 14) (ring : getD (w .bytes) 0 0 ≡ 0x05)
+    (started : getD answer 10 0 ≡ 0) where
+  effect-begun : Effect (spent u) (parsed (w .bytes)) (w .reach) v answer → Begun u v (askedIn (w .bytes))
   unfolding parsed
   effect-begun (apart head other l) = absurd (other ring)
-  effect-begun (rings id legal is) =
+  effect-begun (rings mask id status is) =
       record {
-        mask = ringMask (u .settings) (drop 10 w);
-        volume = heldVolume (u .settings) (drop 10 w);
-        sounds = ap (λ (x : TagUnit). x .sound) is ∙ rw (asked-tenths w long);
+        mask = reached mask (w .reach);
+        volume = heldVolume (u .settings) (drop 10 (w .bytes));
+        sounds = ap (λ (x : TagUnit). x .sound) is ∙ rw (asked-tenths (w .bytes) long);
         nonce = ap (λ (x : TagUnit). x .«ring_nonce») is;
         identity = ap (λ (x : TagUnit). x .identity) is;
       }
-  effect-begun (stops id legal none e) = absurd (mask-some (u .settings) (drop 10 w) legal (λ z. some (sym (getD-drop 10 w 0 0) ∙ z)) none)
-  effect-begun (clears id e) = absurd (omega arith)
+  effect-begun (stops id status is) = absurd (omega (arith, started, status))
+  effect-begun (fails id head status notice is) = absurd (omega (arith, started, status))
+  effect-begun (clears id silent e) = absurd (omega arith)
 
-pub begun : (u : TagUnit) (w : List ℕ) (room : ℕ) → Starts w room u → Begun u (step (writes w room) u .unit) (askedIn w)
-begun u w room s =
-    let a = admitted w room u (s .accepted .0) (s .accepted .1) in
-    effect-begun u (step (writes w room) u .unit) w (s .accepted .0) (ring-long w (a .legal) (s .ring)) (s .ring) (s .some) (a .effect)
+pub begun : (u : TagUnit) (w : Written) (room : ℕ) → Starts w room u → Begun u (step (writes w room) u .unit) (askedIn (w .bytes))
+begun u w room (notifies {answer = answer} ring given started) =
+    let a = admitted w room u answer given in
+    effect-begun u (step (writes w room) u .unit) w answer (ring-long (w .bytes) (a .legal) ring) ring started (a .effect)
 
-pub start-formed : (u : TagUnit) (w : List ℕ) (room : ℕ) → Starts w room u → wellFormed u ≡ true
-start-formed u w room s = admitted w room u (s .accepted .0) (s .accepted .1) .formed
+pub start-formed : (u : TagUnit) (w : Written) (room : ℕ) → Starts w room u → wellFormed u ≡ true
+start-formed u w room (notifies {answer = answer} ring given started) = admitted w room u answer given .formed
+
+pub start-succeeds : (u : TagUnit) (w : Written) (room : ℕ) → Starts w room u → Succeeds (writes w room) u
+start-succeeds u w room (notifies {answer = answer} ring given started) = (answer, given)

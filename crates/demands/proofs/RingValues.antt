@@ -14,7 +14,8 @@ use Rattle.unit.specs.declared.Settings.{Settings}
 use Rattle.unit.specs.Ringable.{inside}
 use Rattle.ringing.specs.Ringing.{askedTimeout, ringMask, allOfNone, ringLegal}
 use Rattle.demands.specs.Refused.{IllegalRing, outside, nothing, tooLoud, noTime, tooLong}
-use Rattle.demands.proofs.MaskBits.{inside-below, below-inside, no-bit, bit-from}
+use Rattle.unit.proofs.Masks.{inside-below, below-inside}
+use Rattle.demands.proofs.MaskBits.{no-bit, bit-from}
 
 -- the ringable mask, of none and of some
 whole-zero : (components : ℕ) → 2 ^ components - 1 ≡ 0 → components ≡ 0

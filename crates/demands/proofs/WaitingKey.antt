@@ -13,7 +13,7 @@ use Rattle.unit.specs.declared.Identity.{Identity}
 use Rattle.unit.specs.WellFormed.{wellFormed}
 use Rattle.unit.specs.Change.{identityKey}
 use Rattle.key_blocks.specs.KeyBlocks.{decryptedKey}
-use Rattle.tag.specs.Calls.{disconnect, Act, calls}
+use Rattle.tag.specs.Calls.{Written, disconnect, Act, calls}
 use Rattle.demands.specs.Spelled.{OwnedWith, AllBut, waiting}
 use Rattle.demands.specs.History.{step, after, writes}
 use Rattle.demands.specs.Refused.{noIdentityKey}
@@ -84,7 +84,7 @@ none-brought : (l : List Act) (u : TagUnit) → Connected l → NoneIn BringsIn 
 none-brought [] u connected = tt
 none-brought (a ∷ l) u connected = (λ b. connected .0 (brings-disconnects b), none-brought l (step a u .unit) (connected .1))
 
-still-old : (u : TagUnit) (first : List ℕ) (room : ℕ) (l : List Act) → Accepts 0x02 (writes first room) u → Connected l
+still-old : (u : TagUnit) (first : Written) (room : ℕ) (l : List Act) → Accepts 0x02 (writes first room) u → Connected l
     → NoneIn (Accepts 0x03) l (after (writes first room ∷ []) u)
     → after (writes first room ∷ l) u .identity ≡ u .identity
 unfolding after
@@ -125,12 +125,12 @@ disconnected u lent bytes right (waits e) =
     ∙ ap (λ (k : Identity). identityKey (k .bytes)) e
 disconnected u lent bytes right (inForce e h) = ap (λ (x : TagUnit). x .identity) (events .nothingBroughtIn u lent right h .left) ∙ e
 
-second-comes-in : (u : TagUnit) (first : List ℕ) (firstRoom : ℕ) (between : List Act) (second : List ℕ) (room : ℕ) (later : List Act)
+second-comes-in : (u : TagUnit) (first : Written) (firstRoom : ℕ) (between : List Act) (second : Written) (room : ℕ) (later : List Act)
     (lent : ℕ) (key : List ℕ)
     → SetTwice u first firstRoom between second room later
     → OwnedWith (after (writes first firstRoom ∷ between) u) key
     → after (writes first firstRoom ∷ between ++ (writes second room ∷ later ++ (calls disconnect lent ∷ []))) u .identity
-    ≡ record { held = true; bytes = InvAES128 key (take 16 (drop 10 second)) ++ InvAES128 key (take 16 (drop 26 second)) }
+    ≡ record { held = true; bytes = InvAES128 key (take 16 (drop 10 (second .bytes))) ++ InvAES128 key (take 16 (drop 26 (second .bytes))) }
 unfolding after decryptedKey
 second-comes-in u first firstRoom between second room later lent key twice owned =
     let start : List Act = writes first firstRoom ∷ between in
@@ -138,7 +138,7 @@ second-comes-in u first firstRoom between second room later lent key twice owned
     let x = step (writes second room) v .unit in
     let done = key-set second room v (twice .secondAccepted) in
     let same : done .key ≡ key = cc (owner-key v (done .formed) key owned) in
-    let secret = decryptedKey (done .key) (drop 10 second) in
+    let secret = decryptedKey (done .key) (drop 10 (second .bytes)) in
     let then : after (start ++ (writes second room ∷ [])) u ≡ x = after-append start (writes second room ∷ []) u in
     let c : Coming (identityKey secret) (after later x) =
     coming later (identityKey secret) x (subst (NoneIn (Accepts 0x02) later) then (twice .noThird)) (subst (NoneIn (Accepts 0x03) later) then (twice .kept))
@@ -152,7 +152,8 @@ second-comes-in u first firstRoom between second room later lent key twice owned
 pub waiting-key : WaitingKey
 waiting-key =
     record {
-      noneInForce = λ u room w id size tag additional right fits none sent high. refused .refused u room w 0x80 right fits (noIdentityKey sent high none);
+      noneInForce = λ u reach room w id size tag additional right fits within none sent high.
+          refused .refused u reach room w 0x80 right fits within (noIdentityKey sent high none);
       unseen = unseen;
       judgedByOld = still-old;
       secondComesIn = second-comes-in;

@@ -12,12 +12,14 @@ use Rattle.wire.specs.Shape.{Request}
 use Rattle.unit.specs.declared.TagUnit.{TagUnit}
 use Rattle.unit.specs.declared.Identity.{Identity}
 use Rattle.unit.specs.declared.Sound.{Sound}
+use Rattle.unit.specs.Ringable.{inside}
 use Rattle.unit.specs.Change.{withClock, withWaiting, withSound, withConsent, silenced, spent}
 use Rattle.unit.specs.Standing.{shownIdentifier}
 use Rattle.unit.specs.WellFormed.{wellFormed}
 use Rattle.unit.specs.Outcome.{Outcome, formed, answering}
 use Rattle.authentication.specs.Judgement.{Judgement, accepts, rejects, under, usedKey, signedByOwner, concluded}
 use Rattle.provisioning.specs.Provisioning.{readParameters, readState, setKey, mayReplace, clearKey, cleared, recoverKey}
+use Rattle.ringing.specs.declared.sounding.Decision.{Decision}
 use Rattle.ringing.specs.Ringing.{ring, rung, readSound}
 use Rattle.ringing.specs.Protecting.{protect, unprotect}
 use Rattle.requests.specs.Write.{byId, judged, written}
@@ -61,13 +63,19 @@ judges-under none h = rejected
 
 ruleset alike = (accepted, rejected, judges-either, judges-under)
 
-by-id-alike : (u : TagUnit) (k : Identity) (q : Request) → Judges (byId u q) (byId (withWaiting k u) q)
-unfolding byId readParameters readState setKey mayReplace clearKey cleared recoverKey ring rung readSound protect unprotect usedKey signedByOwner shownIdentifier
-by-id-alike u k q = search alike depth 24
+rung-alike : (d : Decision) (u : TagUnit) (k : Identity) (volume left : ℕ) → Judges (rung d u volume left) (rung d (withWaiting k u) volume left)
+unfolding rung
+rung-alike (Decision.Started mask) u k volume left = search alike
+rung-alike Decision.Stopped u k volume left = search alike
+rung-alike Decision.Failed u k volume left = search alike
 
-judged-alike : (u : TagUnit) (k : Identity) (w : List ℕ) → Judges (judged u w) (judged (withWaiting k u) w)
+by-id-alike : (u : TagUnit) (k : Identity) (q : Request) (reach : ℕ) → Judges (byId u q reach) (byId (withWaiting k u) q reach)
+unfolding byId readParameters readState setKey mayReplace clearKey cleared recoverKey ring readSound protect unprotect usedKey signedByOwner shownIdentifier
+by-id-alike u k q reach = search (alike, rung-alike) depth 24
+
+judged-alike : (u : TagUnit) (k : Identity) (w : List ℕ) (reach : ℕ) → Judges (judged u w reach) (judged (withWaiting k u) w reach)
 unfolding judged
-judged-alike u k w = search (alike, by-id-alike (spent u) k)
+judged-alike u k w reach = search (alike, by-id-alike (spent u) k)
 
 -- two outcomes
 pub data Ends : Outcome → Outcome → Type 0 where
@@ -99,7 +107,8 @@ module _ (u : TagUnit) (k : Identity) where
   pub own-alike : (c : Call) → (c ≡ disconnect → ⊥) → Ends (own c u) (own c (withWaiting k u))
   unfolding own issuing nonceFits charged keeping lending showing written
   own-alike (read nonce) other = search (ends, ends-either) depth 10
-  own-alike (write w) other = concluded-alike (search) (judged-alike u k (w .bytes))
+  own-alike (write w) other =
+      ends-either (inside (w .reach) (u .settings .components)) (concluded-alike (search) (judged-alike u k (w .bytes) (w .reach))) (search ends)
   own-alike button other = pressed-alike (u .sound)
   own-alike (pairing on) other = search ends
   own-alike (battery level) other = search (ends, ends-either) depth 10

@@ -6,6 +6,7 @@ use mathlib.Core.Bool.{Bool, true, false, cond, not, _||_}
 use mathlib.Core.List.{List}
 use mathlib.Core.Option.{Option, some, none}
 use native.Mathlib.Omega.{arith}
+use lib.Bits.{bitAnd, and-le-l}
 use lib.Dec.{eqb, leb}
 use borrow.Author.Tests.{eqb-true, eqb-false, leb-true, le-ltb}
 use Rattle.laws.proofs.Flags.{and-left, and-right, or-rest}
@@ -14,17 +15,21 @@ use Rattle.wire.specs.Shape.{Request, parsed, shapeLegal}
 use Rattle.unit.specs.declared.TagUnit.{TagUnit}
 use Rattle.unit.specs.declared.Settings.{Settings}
 use Rattle.unit.specs.declared.Owner.{Owner}
+use Rattle.unit.specs.declared.Sound.{Sound}
 use Rattle.unit.specs.declared.Protection.{Protection}
 use Rattle.sizes.specs.Sizes.{highestVolume}
 use Rattle.tables.specs.Rows.{placeOf}
 use Rattle.unit.specs.Ringable.{inside}
 use Rattle.unit.specs.WellFormed.{wellFormed, heldKeys, rowOf, ownerKey, owned}
 use Rattle.unit.specs.Change.{spent, withAccounts}
+use Rattle.unit.specs.Outcome.{Outcome}
+use Rattle.unit.proofs.Masks.{inside-below, below-inside}
 use Rattle.unit.proofs.Lines.{RingLines, VolumeLines, lines, held-count, settings-legal}
 use Rattle.unit.proofs.Kept.{fresh-formed, clock-kept, battery-kept, pairing-kept, nonces-kept, spent-kept, owner-kept, waiting-kept, silenced-kept, ring-kept, protection-kept}
 use Rattle.authentication.specs.Judgement.{Judgement, accepts, rejects, lastNonce, tagged, usedKey, onlyIf, signedByOwner, under, concluded}
 use Rattle.provisioning.specs.Provisioning.{readParameters, readState, setKey, clearKey, recoverKey, claimed, awaiting, cleared}
-use Rattle.ringing.specs.Ringing.{ring, rung, readSound, skips, ringLegal, ringMask, allOfNone, askedVolume, askedTimeout, heldVolume}
+use Rattle.ringing.specs.declared.sounding.Decision.{Decision}
+use Rattle.ringing.specs.Ringing.{ring, rung, readSound, skips, ringLegal, ringMask, reached, outOfReach, stopDecision, ringDecision, allOfNone, askedVolume, askedTimeout, heldVolume}
 use Rattle.ringing.specs.Protecting.{protect, unprotect}
 use Rattle.requests.specs.Write.{byId, keyThere, judged, written}
 use Rattle.demands.proofs.HeldKeys.{first-among, place-below}
@@ -62,7 +67,12 @@ pub owner-signed : (u : TagUnit) (q : Request) (key : List ℕ) → signedByOwne
 unfolding signedByOwner
 owner-signed u q key e = only-some _ (ownerKey (u .accounts)) key e
 
--- A ring that is legal has a ring's lines
+-- Parts of a mask that is inside are inside
+part-inside : (mask reach components : ℕ) → inside mask components ≡ true → inside (reached mask reach) components ≡ true
+part-inside mask reach components h =
+    below-inside (bitAnd mask reach) components (omega (arith, and-le-l mask reach, inside-below mask components h))
+
+-- A ring that is legal, of the parts that are in reach, has a ring's lines
 held-volume : (s : Settings) (a : List ℕ) → leb (askedVolume a) highestVolume ≡ true → VolumeLines (s .selectable) (heldVolume s a)
 held-volume s a h = go (eqb (s .selectable) 0) refl
   where
@@ -70,17 +80,17 @@ held-volume s a h = go (eqb (s .selectable) 0) refl
     go true e = record { most = omega arith; fixed = λ z. refl }
     go false e = record { most = leb-true (askedVolume a) highestVolume h; fixed = λ z. absurd (eqb-false (s .selectable) 0 e z) }
 
-ring-lines : (s : Settings) (a : List ℕ) (keyed : Bool) → keyed ≡ true → ringLegal s a ≡ true → eqb (ringMask s a) 0 ≡ false
-    → RingLines (ringMask s a) (heldVolume s a) (askedTimeout a) s keyed
+ring-lines : (s : Settings) (a : List ℕ) (reach : ℕ) (keyed : Bool) → keyed ≡ true → ringLegal s a ≡ true → eqb (ringMask s a) 0 ≡ false
+    → outOfReach (ringMask s a) reach ≡ false → RingLines (reached (ringMask s a) reach) (heldVolume s a) (askedTimeout a) s keyed
 unfolding ringLegal
-ring-lines s a keyed k h z =
+ring-lines s a reach keyed k h z part =
     let from-whole = and-right (inside (ringMask s a) (s .components)) _ h in
     let from-volume = and-right (not (allOfNone s a)) _ from-whole in
     let times = or-rest _ z (and-right (leb (askedVolume a) highestVolume) _ from-volume) in
     record {
       identityHeld = k;
-      some = eqb-false (ringMask s a) 0 z;
-      within = and-left _ _ h;
+      some = eqb-false (reached (ringMask s a) reach) 0 part;
+      within = part-inside (ringMask s a) reach (s .components) (and-left _ _ h);
       atVolume = held-volume s a (and-left _ _ from-volume);
       least = leb-true _ _ (and-left _ _ times);
       most = leb-true _ _ (and-right (leb 1 (askedTimeout a)) _ times);
@@ -143,18 +153,28 @@ module _ (u : TagUnit) (w : wellFormed u ≡ true) (q : Request) where
     unfolding protect
     protect-forms = search (forms, tested Forms, protection-kept u w, held) depth 8
 
-    ring-forms : Forms (ring u q)
-    unfolding ring rung
-    ring-forms =
+    stop-forms : (s : Sound) (reach volume left : ℕ) → Forms (rung (stopDecision s reach) u volume left)
+    unfolding rung
+    stop-forms Sound.Silent reach volume left = accepted (silenced-kept u w)
+    stop-forms (Sound.Ringing mask loudness rest) reach volume left =
+        tested (λ (d : Decision). Forms (rung d u volume left)) (outOfReach mask reach) (λ none. accepted w) (λ some. accepted (silenced-kept u w))
+
+    ring-forms : (reach : ℕ) → Forms (ring u q reach)
+    unfolding ring ringDecision rung
+    ring-forms reach =
+        let mask = ringMask (u .settings) (q .additional) in
+        let P : Decision → Type 0 = λ d. Forms (rung d u (heldVolume (u .settings) (q .additional)) (askedTimeout (q .additional))) in
         tested Forms (skips (u .protection) || tagged (ringKey (u .identity .bytes)) (lastNonce u) q)
         (λ passed.
         tested Forms (ringLegal (u .settings) (q .additional))
         (λ legal.
-        tested Forms (eqb (ringMask (u .settings) (q .additional)) 0)
-        (λ stop. accepted (silenced-kept u w))
+        tested P (eqb mask 0)
+        (λ stop. stop-forms (u .sound) reach _ _)
         (λ more.
+        tested P (outOfReach mask reach) (λ none. accepted w)
+        (λ some.
         accepted
-        (ring-kept u w _ _ _ (lastNonce u) (ring-lines (u .settings) (q .additional) (u .identity .held) held legal more))))
+        (ring-kept u w _ _ _ (lastNonce u) (ring-lines (u .settings) (q .additional) reach (u .identity .held) held legal more some)))))
         (λ wrong. rejected))
         (λ wrong. rejected)
 
@@ -162,9 +182,9 @@ module _ (u : TagUnit) (w : wellFormed u ≡ true) (q : Request) where
 key-there : (u : TagUnit) (q : Request) (id : ℕ) → keyThere u q ≡ true → 3 ≤ id → eqb (q .id) id ≡ true → u .identity .held ≡ true
 key-there u q id k h e = let same = eqb-true (q .id) id e in or-rest _ (le-ltb (q .id) 3 (omega arith)) k
 
-by-id-forms : (u : TagUnit) → wellFormed u ≡ true → (q : Request) → keyThere u q ≡ true → Forms (byId u q)
+by-id-forms : (u : TagUnit) → wellFormed u ≡ true → (q : Request) (reach : ℕ) → keyThere u q ≡ true → Forms (byId u q reach)
 unfolding byId
-by-id-forms u w q k =
+by-id-forms u w q reach k =
     tested Forms (eqb (q .id) 0x00) (λ e. parameters-forms u w q)
     (λ n.
     tested Forms (eqb (q .id) 0x01) (λ e. state-forms u w q)
@@ -175,7 +195,7 @@ by-id-forms u w q k =
     (λ n.
     tested Forms (eqb (q .id) 0x04) (λ e. recover-forms u w q)
     (λ n.
-    tested Forms (eqb (q .id) 0x05) (λ e. ring-forms u w q (key-there u q 0x05 k (omega arith) e))
+    tested Forms (eqb (q .id) 0x05) (λ e. ring-forms u w q (key-there u q 0x05 k (omega arith) e) reach)
     (λ n.
     tested Forms (eqb (q .id) 0x06) (λ e. sound-forms u w q)
     (λ n.
@@ -186,13 +206,16 @@ concluded-formed : (u : TagUnit) → wellFormed u ≡ true → (j : Judgement) �
 concluded-formed u w j (accepted h) = h
 concluded-formed u w j rejected = w
 
-pub written-kept : (u : TagUnit) → wellFormed u ≡ true → (b : List ℕ) → wellFormed (written u b .unit) ≡ true
+pub written-kept : (u : TagUnit) → wellFormed u ≡ true → (b : List ℕ) (reach : ℕ) → wellFormed (written u b reach .unit) ≡ true
 unfolding written judged
-written-kept u w b =
-    concluded-formed (spent u) (spent-kept u w) (judged u b)
+written-kept u w b reach =
+    tested (λ (o : Outcome). wellFormed (o .unit) ≡ true) (inside reach (u .settings .components))
+    (λ within.
+    concluded-formed (spent u) (spent-kept u w) (judged u b reach)
     (tested Forms (shapeLegal b)
     (λ s.
     tested Forms (u .nonces .live)
-    (λ l. tested Forms (keyThere u (parsed b)) (λ k. by-id-forms (spent u) (spent-kept u w) (parsed b) k) (λ n. rejected))
+    (λ l. tested Forms (keyThere u (parsed b)) (λ k. by-id-forms (spent u) (spent-kept u w) (parsed b) reach k) (λ n. rejected))
     (λ n. rejected))
-    (λ n. rejected))
+    (λ n. rejected)))
+    (λ out. w)

@@ -6,7 +6,7 @@ use mathlib.Core.Bool.{Bool, true, false, cond, _&&_, _||_}
 use mathlib.Core.List.{List}
 use mathlib.Core.Option.{Option, some, none}
 use native.Mathlib.Omega.{arith}
-use lib.Dec.{eqb, leb, ltb}
+use lib.Dec.{leb, ltb}
 use borrow.Author.Tests.{eqb-true}
 use Rattle.laws.specs.Answer.{gives}
 use Rattle.wire.specs.Shape.{Request, parsed, shapeLegal}
@@ -16,11 +16,13 @@ use Rattle.unit.specs.declared.TagUnit.{TagUnit}
 use Rattle.unit.specs.declared.Accounts.{Accounts}
 use Rattle.unit.specs.declared.Owner.{Owner}
 use Rattle.unit.specs.WellFormed.{wellFormed, ownerKey}
+use Rattle.unit.specs.Ringable.{inside}
 use Rattle.unit.specs.Change.{spent}
 use Rattle.unit.specs.Outcome.{Outcome, giving, refusing}
 use Rattle.authentication.specs.Judgement.{Judgement, accepts, rejects, answered, under, usedKey, signedByOwner, tagged, proves, lastNonce, concluded}
 use Rattle.provisioning.specs.Provisioning.{readParameters, readState, setKey, mayReplace, awaiting, clearKey, cleared, recoverKey, claimed}
-use Rattle.ringing.specs.Ringing.{skips, ringLegal, ringMask, ring, rung, readSound}
+use Rattle.ringing.specs.declared.sounding.Decision.{Decision}
+use Rattle.ringing.specs.Ringing.{skips, ringLegal, ring, rung, readSound}
 use Rattle.ringing.specs.Protecting.{flagOf, protect, unprotect}
 use Rattle.requests.specs.Write.{byId, keyThere, judged, written}
 use Rattle.tag.specs.Calls.{Written, write, own, calls}
@@ -116,12 +118,17 @@ module _ (u : TagUnit) (q : Request) where
           owner = claimed-owner (u .accounts .owner) key (u .accounts) refl;
         }))
 
-    did-ring : Rules (ring u q)
-    unfolding ring rung
-    did-ring =
+    did-rung : (d : Decision) (volume left : ℕ) → Rules (rung d u volume left)
+    unfolding rung
+    did-rung (Decision.Started mask) volume left = other k (record { nonce = refl; table = refl; identity = refl; waiting = refl; owner = λ key e. e })
+    did-rung Decision.Stopped volume left = other k (record { nonce = refl; table = refl; identity = refl; waiting = refl; owner = λ key e. e })
+    did-rung Decision.Failed volume left = other k (alone u)
+
+    did-ring : (reach : ℕ) → Rules (ring u q reach)
+    unfolding ring
+    did-ring reach =
         checked (skips (u .protection) || tagged (ringKey (u .identity .bytes)) (lastNonce u) q) 0x80
-        (checked (ringLegal (u .settings) (q .additional)) 0x81
-        (choose Rules (eqb (ringMask (u .settings) (q .additional)) 0) (λ e. other k (search)) (λ e. other k (search))))
+        (checked (ringLegal (u .settings) (q .additional)) 0x81 (did-rung _ _ _))
 
     did-sound : Rules (readSound u q)
     unfolding readSound
@@ -140,43 +147,48 @@ module _ (u : TagUnit) (q : Request) where
         (other k (search))
 
   -- `omega` sees that the other IDs neither set nor recover a key
-  by-id : Rules (byId u q)
+  by-id : (reach : ℕ) → Rules (byId u q reach)
   unfolding byId
-  by-id =
+  by-id reach =
       choose Rules _ (λ e. let n = eqb-true (q .id) 0 e in did-parameters (omega arith)) (λ _.
       choose Rules _ (λ e. let n = eqb-true (q .id) 1 e in did-state (omega arith)) (λ _.
       choose Rules _ (λ e. did-set (eqb-true (q .id) 2 e)) (λ _.
       choose Rules _ (λ e. did-clear (eqb-true (q .id) 3 e)) (λ _.
       choose Rules _ (λ e. did-recover (eqb-true (q .id) 4 e)) (λ _.
-      choose Rules _ (λ e. let n = eqb-true (q .id) 5 e in did-ring (omega arith)) (λ _.
+      choose Rules _ (λ e. let n = eqb-true (q .id) 5 e in did-ring (omega arith) reach) (λ _.
       choose Rules _ (λ e. let n = eqb-true (q .id) 6 e in did-sound (omega arith)) (λ _.
       choose Rules _ (λ e. let n = eqb-true (q .id) 7 e in did-protect (omega arith)) (λ _.
       choose Rules _ (λ e. let n = eqb-true (q .id) 8 e in did-unprotect (omega arith)) (λ _. refused 0x81)))))))))
 
--- How a write that passed 6 and 2 ended
-pub data Ended (u : TagUnit) (w : List ℕ) : Outcome → Type 0 where
+-- How a write that passed 6 and 2 ended; where it did not pass 1, nothing happened
+pub data Ended (u : TagUnit) (w : Written) : Outcome → Type 0 where
+  unreached : (n : ℕ) → inside (w .reach) (u .settings .components) ≡ false → Ended u w (refusing n u)
   turned : (n : ℕ) → Ended u w (refusing n (spent u))
-  served : {v : TagUnit} {answer : List ℕ} → shapeLegal w ≡ true → u .nonces .live ≡ true → Did (spent u) (parsed w) (accepts v answer)
+  served : {v : TagUnit} {answer : List ℕ} → shapeLegal (w .bytes) ≡ true → u .nonces .live ≡ true → Did (spent u) (parsed (w .bytes)) (accepts v answer)
       → Ended u w (giving answer v)
 
-module _ (u : TagUnit) (w : List ℕ) where
-  concluded-so : {j : Judgement} → shapeLegal w ≡ true → u .nonces .live ≡ true → Did (spent u) (parsed w) j → Ended u w (concluded (spent u) j)
+module _ (u : TagUnit) (w : Written) where
+  concluded-so : {j : Judgement} → shapeLegal (w .bytes) ≡ true → u .nonces .live ≡ true → Did (spent u) (parsed (w .bytes)) j
+      → Ended u w (concluded (spent u) j)
   concluded-so s l (refused n) = turned n
   concluded-so s l (set key e o) = served s l (set key e o)
   concluded-so s l (clear e) = served s l (clear e)
   concluded-so s l (recovered key e o) = served s l (recovered key e o)
   concluded-so s l (other k a) = served s l (other k a)
 
-  pub ends-written : Ended u w (written u w)
+  pub ends-written : Ended u w (written u (w .bytes) (w .reach))
   unfolding written judged
   ends-written =
       let P : Judgement → Type 0 = λ j. Ended u w (concluded (spent u) j) in
-      choose P (shapeLegal w)
+      choose (Ended u w) (inside (w .reach) (u .settings .components))
+      (λ r.
+      choose P (shapeLegal (w .bytes))
       (λ s.
       choose P (u .nonces .live)
-      (λ l. choose P (keyThere u (parsed w)) (λ k. concluded-so s l (by-id (spent u) (parsed w))) (λ k. turned 0x80))
+      (λ l. choose P (keyThere u (parsed (w .bytes))) (λ k. concluded-so s l (by-id (spent u) (parsed (w .bytes)) (w .reach))) (λ k. turned 0x80))
       (λ l. turned 0x80))
-      (λ s. turned 0x81)
+      (λ s. turned 0x81))
+      (λ r. unreached 1 r)
 
 -- An accepted write: on a well-formed unit with a live nonce, of a legal shape
 pub record Served (u : TagUnit) (w : Written) (room : ℕ) (answer : List ℕ) : Type 0 where
@@ -186,8 +198,9 @@ pub record Served (u : TagUnit) (w : Written) (room : ℕ) (answer : List ℕ) :
   pub did : Did (spent u) (parsed (w .bytes)) (accepts (step (calls (write w) room) u .unit) answer)
 
 module _ (w : Written) (room : ℕ) (u : TagUnit) (answer : List ℕ) where
-  from-written : {o : Outcome} → wellFormed u ≡ true → step (calls (write w) room) u ≡ o → Ended u (w .bytes) o → o .result ≡ gives answer
+  from-written : {o : Outcome} → wellFormed u ≡ true → step (calls (write w) room) u ≡ o → Ended u w o → o .result ≡ gives answer
       → Served u w room answer
+  from-written formed e (unreached n out) r = absurd (let z : _≡_ {A = ℕ} 0 1 = cc in omega arith)
   from-written formed e (turned n) r = absurd (let z : _≡_ {A = ℕ} 0 1 = cc in omega arith)
   from-written formed e (served {answer = a} s l did) r =
       let given : a ≡ answer = cc in
@@ -199,4 +212,4 @@ module _ (w : Written) (room : ℕ) (u : TagUnit) (answer : List ℕ) where
     where
       go : Met (calls (write w) room) u → Served u w room answer
       go (barred n e bars) = absurd (not-both (calls (write w) room) u e (answer, r))
-      go (passed fits formed e) = from-written formed e (ends-written u (w .bytes)) (sym (ap (λ (o : Outcome). o .result) e) ∙ r)
+      go (passed fits formed e) = from-written formed e (ends-written u w) (sym (ap (λ (o : Outcome). o .result) e) ∙ r)

@@ -1,6 +1,6 @@
 -- Demand 2: "Every answer, notification, frame and later state is what the published v1.3 rules and our house choices define, for every
 -- write, read .." Here for the read and for each of the nine IDs: rightly built, on a unit that permits it, it is served with these bytes and
--- leaves this unit, in literal numbers over SHA256, HMAC and AES128 alone. Without this a tag that always refuses would keep every promise.
+-- leaves this unit, whichever parts are in reach, in literal numbers over SHA256, HMAC and AES128 alone. Without this a tag that always refuses would keep every promise.
 use Prim.Native.Nat.{ℕ, _+_, _*_, _-_, _/_, _%_, _≤_, _<_}
 use mathlib.Core.Path.{_≡_}
 use mathlib.Core.Bool.{true, false, cond, _&&_}
@@ -17,19 +17,20 @@ use Rattle.unit.specs.declared.Sound.{Sound}
 use Rattle.unit.specs.declared.Protection.{Protection}
 use Rattle.unit.specs.WellFormed.{wellFormed}
 use Rattle.tag.specs.Calls.{read, Act, calls}
-use Rattle.demands.specs.History.{step, writes}
-use Rattle.demands.specs.Spelled.{keyFrom, proofFrom, tagFrom, requestFrom, answerFrom, keyAtPlace, nonceAtPlace, OwnedWith, AllBut, settings, clock, nonce, accounts, identity, waiting, sound, ringNonce, protection, consent, pairing, identifier, NonceSpent, OnlySpends}
+use Rattle.demands.specs.History.{step, sends}
+use Rattle.demands.specs.Spelled.{keyFrom, proofFrom, tagFrom, requestFrom, answerFrom, bit, NoBitOutside, keyAtPlace, nonceAtPlace, OwnedWith, AllBut, settings, clock, nonce, accounts, identity, waiting, sound, ringNonce, protection, consent, pairing, identifier, NonceSpent, OnlySpends}
 
 -- an act is served: it gives this answer, and the unit after it is as said
 pub record Serves (a : Act) (u : TagUnit) (answer : List ℕ) (Left : TagUnit → Type 0) : Type 0 where
   pub answered : step a u .result ≡ gives answer
   pub left : Left (step a u .unit)
 
--- a unit that takes writes: well formed, with a live nonce; and room for the answer
-pub record Open (u : TagUnit) (room : ℕ) : Type 0 where
+-- a unit that takes writes: well formed, with a live nonce; room for the answer, and a mask of reachable parts that it has
+pub record Open (u : TagUnit) (reach room : ℕ) : Type 0 where
   pub formed : wellFormed u ≡ true
   pub live : u .nonces .live ≡ true
   pub fits : 42 ≤ room
+  pub within : NoBitOutside (u .settings .components) reach
 
 -- What a phone sends and is answered with the unit's nonce; and by which keys: "Recovery, ring and protection keys .. 0x01, 0x02, 0x03
 -- respectively". They are made from the identity key in force: while another waits, "all tags, key proofs, frames and 0x01 answers use the
@@ -136,6 +137,11 @@ pub record Cleared (u v : TagUnit) : Type 0 where
 abbrev pub keyBlocks : List ℕ → List ℕ → List ℕ
 keyBlocks key secret = AES128 key (take 16 secret) ++ AES128 key (take 16 (drop 16 secret))
 
+-- "0x06 data: mask and tenths left; zeros when silent"
+abbrev pub soundBytes : Sound → List ℕ
+soundBytes Sound.Silent = 0 ∷ 0 ∷ 0 ∷ []
+soundBytes (Sound.Ringing mask volume left) = mask ∷ (left / 256) ∷ (left % 256) ∷ []
+
 -- "A ring notice has ID 0x05, the ring key, data: status (0 started, 2 timeout, 3 button, 4 request), mask, tenths left; zeros once stopped"
 module _ (u : TagUnit) (with : List ℕ) where
   abbrev pub startNotice : ℕ → ℕ → ℕ → List ℕ
@@ -143,6 +149,10 @@ module _ (u : TagUnit) (with : List ℕ) where
 
   abbrev pub stopNotice : ℕ → List ℕ
   stopNotice status = answerFrom 0x05 (ringKeyOf u) with (status ∷ 0 ∷ 0 ∷ 0 ∷ [])
+
+  -- "failed (status 0x01)"; "its notice carries the old mask and tenths left"
+  abbrev pub failNotice : List ℕ
+  failNotice = answerFrom 0x05 (ringKeyOf u) with (0x01 ∷ soundBytes (u .sound))
 
 -- "The ringable mask, 0x00, 0x01, 0x03 or 0x07, has as many ones as the component number"
 abbrev pub ringable : ℕ → ℕ
@@ -167,6 +177,25 @@ pub record RingLegal (components asked mask timeout volume : ℕ) : Type 0 where
 abbrev pub ringBytes : ℕ → ℕ → ℕ → List ℕ
 ringBytes asked timeout volume = asked ∷ (timeout / 256) ∷ (timeout % 256) ∷ volume ∷ []
 
+-- the tag of a 0x05 with these data: of the ring key, or, "For 0x05 with protection and skip on, any tag passes"
+pub data RingTag (u : TagUnit) (additional : List ℕ) : List ℕ → Type 0 where
+  signed : RingTag u additional (tagFrom (ringKeyOf u) (u .nonces .newest) 0x05 12 additional)
+  skipped : {tag : List ℕ} → u .protection ≡ Protection.On true → length tag ≡ 8 → RingTag u additional tag
+
+-- "when every requested part is out of reach", "when every sounding part is unreachable": no part of the mask is in reach
+abbrev pub NoneReached : ℕ → ℕ → Type 0
+NoneReached mask reach = (i : ℕ) → bit mask i ≡ 1 → bit reach i ≡ 0
+
+-- "unreachable parts are dropped from the mask": these parts, at least one, are those of the mask that are in reach
+pub record Reached (mask reach parts : ℕ) : Type 0 where
+  pub some : 0 < parts
+  pub partsAre : (i : ℕ) → bit parts i ≡ bit mask i * bit reach i
+
+-- a stop "fails when every sounding part is unreachable, and otherwise silences all; while silent it succeeds as before"
+pub data Stoppable (reach : ℕ) : Sound → Type 0 where
+  silent : Stoppable reach Sound.Silent
+  partReached : {mask volume left : ℕ} (i : ℕ) → bit mask i ≡ 1 → bit reach i ≡ 1 → Stoppable reach (Sound.Ringing mask volume left)
+
 -- "ringing with a mask, a volume, tenths left .. and the nonce of the accepted ring"; "Volume is held as 0 where not selectable"
 pub record Rings (mask timeout volume : ℕ) (u v : TagUnit) : Type 0 where
   pub nonceSpent : NonceSpent u v
@@ -178,11 +207,6 @@ pub record Stopped (u v : TagUnit) : Type 0 where
   pub nonceSpent : NonceSpent u v
   pub silent : Silent v
   pub rest : AllBut (nonce ∷ sound ∷ ringNonce ∷ []) u v
-
--- "0x06 data: mask and tenths left; zeros when silent"
-abbrev pub soundBytes : Sound → List ℕ
-soundBytes Sound.Silent = 0 ∷ 0 ∷ 0 ∷ []
-soundBytes (Sound.Ringing mask volume left) = mask ∷ (left / 256) ∷ (left % 256) ∷ []
 
 pub record Protects (p : Protection) (u v : TagUnit) : Type 0 where
   pub nonceSpent : NonceSpent u v
@@ -203,52 +227,52 @@ pub record Accepted : Type 0 where
       → ((p : ℕ) → p < u .nonces .count → nonceAtPlace u p ≡ lent → ⊥)
       → Serves (calls (read lent) room) u (0x01 ∷ lent) (Issued lent u)
   -- "0x00 data, encrypted by the account key used"
-  pub parametersRead : (u : TagUnit) (room p : ℕ) → Open u room → First u 0x00 p
-      → Serves (writes (sent u 0x00 (keyAtPlace u p) []) room) u
+  pub parametersRead : (u : TagUnit) (reach room p : ℕ) → Open u reach room → First u 0x00 p
+      → Serves (sends (sent u 0x00 (keyAtPlace u p) []) reach room) u
       (answer u 0x00 (keyAtPlace u p) (AES128 (keyAtPlace u p) (parameterBytes u)))
       (OnlySpends u)
   -- "0x01 data: bit 0x01 identity key held, bit 0x02 the key used is owner; then the identifier"
-  pub stateRead : (u : TagUnit) (room p : ℕ) → Open u room → First u 0x01 p
-      → Serves (writes (sent u 0x01 (keyAtPlace u p) []) room) u
+  pub stateRead : (u : TagUnit) (reach room p : ℕ) → Open u reach room → First u 0x01 p
+      → Serves (sends (sent u 0x01 (keyAtPlace u p) []) reach room) u
       (answer u 0x01 (keyAtPlace u p) ((cond (u .identity .held) 0x01 0x00 + ownerBit (u .accounts .owner) p) ∷ standing u))
       (OwnerKnown p u)
   -- "0x02: owner key .. 48: the last 8 bytes prove the held key. 40: none is held"; "still judged against the old key", whatever waits
-  pub keySet : (u : TagUnit) (room : ℕ) (key C : List ℕ) → Open u room → OwnedWith u key → u .identity .held ≡ false → length C ≡ 32
-      → Serves (writes (sent u 0x02 key C) room) u (answer u 0x02 key []) (Awaits key C u)
-  pub keyReplaced : (u : TagUnit) (room : ℕ) (key C : List ℕ) → Open u room → OwnedWith u key → u .identity .held ≡ true → length C ≡ 32
-      → Serves (writes (sent u 0x02 key (C ++ keyProofOf u)) room) u (answer u 0x02 key []) (Awaits key C u)
+  pub keySet : (u : TagUnit) (reach room : ℕ) (key C : List ℕ) → Open u reach room → OwnedWith u key → u .identity .held ≡ false → length C ≡ 32
+      → Serves (sends (sent u 0x02 key C) reach room) u (answer u 0x02 key []) (Awaits key C u)
+  pub keyReplaced : (u : TagUnit) (reach room : ℕ) (key C : List ℕ) → Open u reach room → OwnedWith u key → u .identity .held ≡ true → length C ≡ 32
+      → Serves (sends (sent u 0x02 key (C ++ keyProofOf u)) reach room) u (answer u 0x02 key []) (Awaits key C u)
   -- "0x03: owner key and key proof"
-  pub keyCleared : (u : TagUnit) (room : ℕ) (key : List ℕ) → Open u room → OwnedWith u key → u .identity .held ≡ true
-      → Serves (writes (sent u 0x03 key (keyProofOf u)) room) u (answer u 0x03 key []) (Cleared u)
+  pub keyCleared : (u : TagUnit) (reach room : ℕ) (key : List ℕ) → Open u reach room → OwnedWith u key → u .identity .held ≡ true
+      → Serves (sends (sent u 0x03 key (keyProofOf u)) reach room) u (answer u 0x03 key []) (Cleared u)
   -- "0x04: recovery key; then consent left or pairing on .. Consent isn't used up"
-  pub keyRecovered : (u : TagUnit) (room : ℕ) (key : List ℕ) → Open u room → OwnedWith u key → u .identity .held ≡ true
+  pub keyRecovered : (u : TagUnit) (reach room : ℕ) (key : List ℕ) → Open u reach room → OwnedWith u key → u .identity .held ≡ true
       → ((0 < u .consent) ⊎ (u .pairing ≡ true))
-      → Serves (writes (sent u 0x04 (recoveryKeyOf u) []) room) u (answer u 0x04 (recoveryKeyOf u) (keyBlocks key (u .identity .bytes))) (OnlySpends u)
-  -- "0x05, 0x06: ring key": a ring, which "replaces the old one with no stop notice"; and a stop, which "ignores timeout"
-  pub rings : (u : TagUnit) (room asked mask timeout volume : ℕ) → Open u room → u .identity .held ≡ true
-      → RingLegal (u .settings .components) asked mask timeout volume
-      → Serves (writes (sent u 0x05 (ringKeyOf u) (ringBytes asked timeout volume)) room) u
-      (startNotice u (u .nonces .newest) 0 mask timeout)
-      (Rings mask timeout volume u)
-  pub stops : (u : TagUnit) (room high low volume : ℕ) → Open u room → u .identity .held ≡ true → volume ≤ 3
-      → Serves (writes (sent u 0x05 (ringKeyOf u) (0 ∷ high ∷ low ∷ volume ∷ [])) room) u (stopNotice u (u .nonces .newest) 4) (Stopped u)
-  -- "For 0x05 with protection and skip on, any tag passes"
-  pub skipRings : (u : TagUnit) (room asked mask timeout volume : ℕ) (tag : List ℕ) → Open u room → u .identity .held ≡ true
-      → u .protection ≡ Protection.On true → length tag ≡ 8 → RingLegal (u .settings .components) asked mask timeout volume
-      → Serves (writes (0x05 ∷ 12 ∷ tag ++ ringBytes asked timeout volume) room) u
-      (startNotice u (u .nonces .newest) 0 mask timeout)
-      (Rings mask timeout volume u)
-  pub skipStops : (u : TagUnit) (room high low volume : ℕ) (tag : List ℕ) → Open u room → u .identity .held ≡ true
-      → u .protection ≡ Protection.On true → length tag ≡ 8 → volume ≤ 3
-      → Serves (writes (0x05 ∷ 12 ∷ tag ++ (0 ∷ high ∷ low ∷ volume ∷ [])) room) u (stopNotice u (u .nonces .newest) 4) (Stopped u)
-  -- "0x05, 0x06: ring key"
-  pub soundRead : (u : TagUnit) (room : ℕ) → Open u room → u .identity .held ≡ true
-      → Serves (writes (sent u 0x06 (ringKeyOf u) []) room) u (answer u 0x06 (ringKeyOf u) (soundBytes (u .sound))) (OnlySpends u)
+      → Serves (sends (sent u 0x04 (recoveryKeyOf u) []) reach room) u (answer u 0x04 (recoveryKeyOf u) (keyBlocks key (u .identity .bytes))) (OnlySpends u)
+  -- "0x05, 0x06: ring key": a ring, which "replaces the old one with no stop notice", of the parts in reach; it fails if there is none, whatever
+  -- sounds. The values are judged on the mask that is asked for
+  pub rings : (u : TagUnit) (reach room asked mask parts timeout volume : ℕ) (tag : List ℕ) → Open u reach room → u .identity .held ≡ true
+      → RingLegal (u .settings .components) asked mask timeout volume → RingTag u (ringBytes asked timeout volume) tag → Reached mask reach parts
+      → Serves (sends (0x05 ∷ 12 ∷ tag ++ ringBytes asked timeout volume) reach room) u
+      (startNotice u (u .nonces .newest) 0 parts timeout)
+      (Rings parts timeout volume u)
+  pub startFails : (u : TagUnit) (reach room asked mask timeout volume : ℕ) (tag : List ℕ) → Open u reach room → u .identity .held ≡ true
+      → RingLegal (u .settings .components) asked mask timeout volume → RingTag u (ringBytes asked timeout volume) tag → NoneReached mask reach
+      → Serves (sends (0x05 ∷ 12 ∷ tag ++ ringBytes asked timeout volume) reach room) u (failNotice u (u .nonces .newest)) (OnlySpends u)
+  -- a stop, which "ignores timeout"
+  pub stops : (u : TagUnit) (reach room high low volume : ℕ) (tag : List ℕ) → Open u reach room → u .identity .held ≡ true → volume ≤ 3
+      → RingTag u (0 ∷ high ∷ low ∷ volume ∷ []) tag → Stoppable reach (u .sound)
+      → Serves (sends (0x05 ∷ 12 ∷ tag ++ (0 ∷ high ∷ low ∷ volume ∷ [])) reach room) u (stopNotice u (u .nonces .newest) 4) (Stopped u)
+  pub stopFails : (u : TagUnit) (reach room high low volume mask held left : ℕ) (tag : List ℕ) → Open u reach room → u .identity .held ≡ true
+      → volume ≤ 3 → RingTag u (0 ∷ high ∷ low ∷ volume ∷ []) tag → u .sound ≡ Sound.Ringing mask held left → NoneReached mask reach
+      → Serves (sends (0x05 ∷ 12 ∷ tag ++ (0 ∷ high ∷ low ∷ volume ∷ [])) reach room) u (failNotice u (u .nonces .newest)) (OnlySpends u)
+  -- "0x05, 0x06: ring key"; 0x06 does not look at the reach
+  pub soundRead : (u : TagUnit) (reach room : ℕ) → Open u reach room → u .identity .held ≡ true
+      → Serves (sends (sent u 0x06 (ringKeyOf u) []) reach room) u (answer u 0x06 (ringKeyOf u) (soundBytes (u .sound))) (OnlySpends u)
   -- "0x07: protection key; flag byte absent or 0 means skip off, 1 means on .. Given again, the new flag holds"
-  pub protects : (u : TagUnit) (room : ℕ) → Open u room → u .identity .held ≡ true
-      → Serves (writes (sent u 0x07 (protectionKeyOf u) []) room) u (answer u 0x07 (protectionKeyOf u) []) (Protects (Protection.On false) u)
-  pub protectsFlagged : (u : TagUnit) (room flag : ℕ) → Open u room → u .identity .held ≡ true → flag < 2
-      → Serves (writes (sent u 0x07 (protectionKeyOf u) (flag ∷ [])) room) u (answer u 0x07 (protectionKeyOf u) []) (Protects (Protection.On (eqb flag 1)) u)
+  pub protects : (u : TagUnit) (reach room : ℕ) → Open u reach room → u .identity .held ≡ true
+      → Serves (sends (sent u 0x07 (protectionKeyOf u) []) reach room) u (answer u 0x07 (protectionKeyOf u) []) (Protects (Protection.On false) u)
+  pub protectsFlagged : (u : TagUnit) (reach room flag : ℕ) → Open u reach room → u .identity .held ≡ true → flag < 2
+      → Serves (sends (sent u 0x07 (protectionKeyOf u) (flag ∷ [])) reach room) u (answer u 0x07 (protectionKeyOf u) []) (Protects (Protection.On (eqb flag 1)) u)
   -- "0x08: protection key and key proof; protection off, also if it was off"
-  pub unprotects : (u : TagUnit) (room : ℕ) → Open u room → u .identity .held ≡ true
-      → Serves (writes (sent u 0x08 (protectionKeyOf u) (keyProofOf u)) room) u (answer u 0x08 (protectionKeyOf u) []) (Protects Protection.Off u)
+  pub unprotects : (u : TagUnit) (reach room : ℕ) → Open u reach room → u .identity .held ≡ true
+      → Serves (sends (sent u 0x08 (protectionKeyOf u) (keyProofOf u)) reach room) u (answer u 0x08 (protectionKeyOf u) []) (Protects Protection.Off u)

@@ -20,6 +20,8 @@
 -- And of the change that keeps a new key waiting: "Demands 2 and 3 count the disconnect as one more event, and recovery speaks of the key in
 -- force."
 --
+-- And of parts that are out of reach: "Demand 3 counts the lent mask as part of the event."
+--
 -- And of a random source that is stuck: "Refusal 3 must be given when the lent nonce equals any of the last 16 issued, live or spent, a clear
 -- (0x03) included. The seventeenth back is accepted."
 --
@@ -38,6 +40,7 @@ use Rattle.demands.specs.NonceRepeats.{NonceRepeats}
 use Rattle.demands.specs.Recovery.{Demand2Recovery}
 use Rattle.demands.specs.RecoveryExample.{RecoveryExample}
 use Rattle.demands.specs.WaitingKey.{WaitingKey}
+use Rattle.demands.specs.Reach.{Reach}
 use Rattle.demands.specs.Time.{Demand3}
 use Rattle.demands.specs.RingLasts.{RingLasts}
 use Rattle.demands.specs.ConsentLasts.{ConsentLasts}
@@ -50,8 +53,8 @@ pub record Demands : Type 0 where
   pub formed : Formed
   pub refusals : RefusalOrder
   pub wellFormed : WellFormedExactly
-  -- 2: what each call gives and leaves, and which writes are refused; nonces; recovery, with an example of it; the key that waits; consent; the
-  -- paper's examples
+  -- 2: what each call gives and leaves, and which writes are refused; nonces; recovery, with an example of it; the key that waits; what is in reach;
+  -- consent; the paper's examples
   pub accepted : Accepted
   pub refused : Refused
   pub events : Events
@@ -61,6 +64,7 @@ pub record Demands : Type 0 where
   pub recovered : Demand2Recovery
   pub recoveredOnce : RecoveryExample
   pub waitingKey : WaitingKey
+  pub reach : Reach
   pub consentLasts : ConsentLasts
   pub edges : Edges
   -- 3: however time is cut; and the reason given for it

@@ -19,6 +19,7 @@ use Rattle.ringing.specs.Ringing.{ring, ringMask}
 use Rattle.tag.specs.Calls.{newUnit}
 use Rattle.time.specs.Time.{tenths, oneTenth}
 use Rattle.frame.specs.Frame.{flagsBeforeXor}
+use Rattle.demands.specs.Accepted.{ringable}
 
 abbrev pub settings : ℕ → Settings
 settings components = record { power = pos 0; components = components; selectable = 1 }
@@ -37,11 +38,12 @@ refusedBy (rejects n) = n
 abbrev pub request : ℕ → ℕ → List ℕ
 request mask timeout = mask ∷ bigEndian 2 timeout ++ (0 ∷ [])
 
--- the judgement of that 0x05 on a unit under protection with the skip flag, where any tag passes
+-- the judgement of that 0x05 on a unit under protection with the skip flag, where any tag passes, with every part in reach
 abbrev pub rung : ℕ → ℕ → ℕ → Judgement
 rung components mask timeout =
     ring (withProtection (Protection.On true) (fresh (settings components)))
     (record { id = 0x05; size = 12; tag = []; additional = request mask timeout })
+    (ringable components)
 
 abbrev pub ringing : ℕ → TagUnit
 ringing left = withSound (Sound.Ringing 1 0 left) [] (fresh (settings 1))

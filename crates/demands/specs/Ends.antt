@@ -15,7 +15,7 @@ use Rattle.unit.specs.Outcome.{Outcome}
 use Rattle.tag.specs.Calls.{newUnit, Written, write, Act, calls}
 use Rattle.demands.specs.History.{step}
 
--- a refusal of a write, after its nonce is spent
+-- a refusal of a write, after its nonce is spent; 1 is given before
 pub data Spending : ℕ → Type 0 where
   notAuthenticated : Spending 0x80
   invalidValue : Spending 0x81

@@ -5,7 +5,7 @@ use mathlib.Core.List.{List, [], _∷_, _++_}
 use lib.ListN.{getD}
 use Rattle.unit.specs.declared.TagUnit.{TagUnit}
 use Rattle.unit.specs.Outcome.{Outcome}
-use Rattle.tag.specs.Calls.{Call, read, write, button, pairing, battery, accountKey, disconnect, identifier, frame, Act, calls, waits, act}
+use Rattle.tag.specs.Calls.{Written, Call, read, write, button, pairing, battery, accountKey, disconnect, identifier, frame, Act, calls, waits, act}
 
 -- what an act does on a unit
 abbrev pub step : Act → TagUnit → Outcome
@@ -16,9 +16,12 @@ unfoldable pub after : List Act → TagUnit → TagUnit
 after [] u = u
 after (a ∷ l) u = after l (step a u .unit)
 
--- a write of these bytes
-abbrev pub writes : List ℕ → ℕ → Act
-writes w room = calls (write (record { bytes = w })) room
+-- a write; and one of these bytes, with this mask of reachable parts
+abbrev pub writes : Written → ℕ → Act
+writes w room = calls (write w) room
+
+abbrev pub sends : List ℕ → ℕ → ℕ → Act
+sends bytes reach room = writes (record { bytes = bytes; reach = reach }) room
 
 -- lists of bytes, as every slice of the code is
 abbrev pub Bytes : List ℕ → Type 0

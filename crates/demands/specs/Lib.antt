@@ -13,6 +13,7 @@ pub mod Among
 pub mod Recovery
 pub mod Time
 pub mod WaitingKey
+pub mod Reach
 pub mod RingLasts
 pub mod ConsentLasts
 pub mod SleepUntil

@@ -1,6 +1,6 @@
 -- Demand 2: "Each issue of a nonce authenticates at most one write." Over histories from a fresh unit, about issues and not values: a
--- nonce is live exactly if some successful read has no later write that passed 6 and 2, and it is that read's. So each accepted write
--- (skipped rings too) has a successful read of its own before it, with no other write that passed 6 and 2 between, and its tag is made with
+-- nonce is live exactly if some successful read has no later write that passed 6, 2 and 1, and it is that read's. So each accepted write
+-- (skipped rings too) has a successful read of its own before it, with no other write that passed 6, 2 and 1 between, and its tag is made with
 -- that read's nonce; and of two accepted writes the later has a read of its own between them.
 use Prim.Native.Nat.{ℕ, _≤_, _<_}
 use mathlib.Core.Path.{_≡_}
@@ -14,22 +14,23 @@ use Rattle.unit.specs.declared.Protection.{Protection}
 use Rattle.unit.specs.Change.{fresh}
 use Rattle.unit.specs.WellFormed.{wellFormed}
 use Rattle.tag.specs.Calls.{Written, read, write, Act, calls}
-use Rattle.demands.specs.Spelled.{keyFrom, tagFrom, keyAtPlace, OwnedWith}
+use Rattle.demands.specs.Spelled.{keyFrom, tagFrom, keyAtPlace, OwnedWith, NoBitOutside}
 use Rattle.demands.specs.History.{step, after}
 
 -- an act that succeeded
 abbrev pub Succeeds : Act → TagUnit → Type 0
 Succeeds a u = (answer : List ℕ) × (step a u .result ≡ gives answer)
 
--- a write that passed 6 and 2: there was room, and the unit was well formed
+-- a write that passed 6, 2 and 1: there was room, the unit was well formed, and no part was lent as reachable that it does not have
 pub data PassesGuards : Act → TagUnit → Type 0 where
-  passes : {w : Written} {room : ℕ} {u : TagUnit} → 42 ≤ room → wellFormed u ≡ true → PassesGuards (calls (write w) room) u
+  passes : {w : Written} {room : ℕ} {u : TagUnit} → 42 ≤ room → wellFormed u ≡ true → NoBitOutside (u .settings .components) (w .reach)
+      → PassesGuards (calls (write w) room) u
 
 -- a successful read
 pub data Issues : Act → TagUnit → Type 0 where
   issues : {nonce : List ℕ} {room : ℕ} {u : TagUnit} → Succeeds (calls (read nonce) room) u → Issues (calls (read nonce) room) u
 
--- no successful read and no write that passed 6 and 2 among these acts
+-- no successful read and no write that passed 6, 2 and 1 among these acts
 abbrev pub Quiet : List Act → TagUnit → Type 0
 Quiet [] u = Unit {0}
 Quiet (a ∷ l) u = (Issues a u → ⊥) × (PassesGuards a u → ⊥) × Quiet l (step a u .unit)

@@ -10,7 +10,7 @@ use Rattle.laws.specs.Answer.{gives}
 use Rattle.unit.specs.declared.TagUnit.{TagUnit}
 use Rattle.unit.specs.declared.Settings.{Settings}
 use Rattle.unit.specs.Change.{fresh}
-use Rattle.tag.specs.Calls.{disconnect, Act, calls}
+use Rattle.tag.specs.Calls.{Written, disconnect, Act, calls}
 use Rattle.demands.specs.History.{step, after, writes, AllOfBytes}
 use Rattle.demands.specs.Among.{NoneIn, Accepts, BringsIn}
 
@@ -21,26 +21,26 @@ dataOf bytes = drop 10 bytes
 -- The key in force after the history h, from the unit u, was set by a 0x02 whose data began with C
 pub record SetBy (u : TagUnit) (h : List Act) (C : List ℕ) : Type 0 where
   pub before : List Act
-  pub bytes : List ℕ
+  pub sent : Written
   pub room : ℕ
   pub between : List Act
   pub lent : ℕ
   pub later : List Act
-  pub split : h ≡ before ++ (writes bytes room ∷ between ++ (calls disconnect lent ∷ later))
+  pub split : h ≡ before ++ (writes sent room ∷ between ++ (calls disconnect lent ∷ later))
   -- the last accepted 0x02 before the disconnect
-  pub accepted : Accepts 0x02 (writes bytes room) (after before u)
-  pub began : C ≡ take 32 (dataOf bytes)
-  pub lastSet : NoneIn (Accepts 0x02) between (after (before ++ (writes bytes room ∷ [])) u)
+  pub accepted : Accepts 0x02 (writes sent room) (after before u)
+  pub began : C ≡ take 32 (dataOf (sent .bytes))
+  pub lastSet : NoneIn (Accepts 0x02) between (after (before ++ (writes sent room ∷ [])) u)
   -- the last disconnect that brought a key in, and no accepted 0x03 after it
-  pub brought : BringsIn (calls disconnect lent) (after (before ++ (writes bytes room ∷ between)) u)
-  pub lastBrought : NoneIn BringsIn later (after (before ++ (writes bytes room ∷ between ++ (calls disconnect lent ∷ []))) u)
-  pub kept : NoneIn (Accepts 0x03) later (after (before ++ (writes bytes room ∷ between ++ (calls disconnect lent ∷ []))) u)
+  pub brought : BringsIn (calls disconnect lent) (after (before ++ (writes sent room ∷ between)) u)
+  pub lastBrought : NoneIn BringsIn later (after (before ++ (writes sent room ∷ between ++ (calls disconnect lent ∷ []))) u)
+  pub kept : NoneIn (Accepts 0x03) later (after (before ++ (writes sent room ∷ between ++ (calls disconnect lent ∷ []))) u)
 
 abbrev pub Demand2Recovery : Type 0
 Demand2Recovery =
-    (s : Settings) (h : List Act) (C : List ℕ) (w : List ℕ) (room : ℕ) (answer : List ℕ)
+    (s : Settings) (h : List Act) (C : List ℕ) (w : Written) (room : ℕ) (answer : List ℕ)
     → AllOfBytes h
     → SetBy (fresh s) h C
-    → getD w 0 0 ≡ 0x04
+    → getD (w .bytes) 0 0 ≡ 0x04
     → step (writes w room) (after h (fresh s)) .result ≡ gives answer
     → dataOf answer ≡ C

@@ -1,6 +1,7 @@
 -- An example that the demand on recovery is not empty, for any account key, any 32 encrypted bytes and any nonces: from a fresh unit a key
 -- is added, made owner by 0x01 and used to set an identity key by 0x02, which the disconnect brings in; after a press of the button 0x04 is
--- accepted, and answers the 32 bytes. The writes are the bytes that a phone sends, which knows the keys and the nonces that it read.
+-- accepted, and answers the 32 bytes. The writes are the bytes that a phone sends, which knows the keys and the nonces that it read; no part needs to be
+-- in reach.
 use Prim.Native.Nat.{ℕ}
 use mathlib.Core.Path.{_≡_}
 use mathlib.Core.Bool.{true}
@@ -13,7 +14,7 @@ use Rattle.unit.specs.declared.Settings.{Settings}
 use Rattle.unit.specs.Change.{fresh}
 use Rattle.unit.specs.WellFormed.{settingsLegal}
 use Rattle.tag.specs.Calls.{read, button, accountKey, disconnect, Act, calls}
-use Rattle.demands.specs.History.{step, after, writes, Bytes, AllOfBytes}
+use Rattle.demands.specs.History.{step, after, sends, Bytes, AllOfBytes}
 use Rattle.demands.specs.Spelled.{keyFrom, requestFrom}
 use Rattle.demands.specs.Recovery.{SetBy, dataOf}
 
@@ -38,9 +39,9 @@ abbrev pub provisioning : (key C n₁ n₂ n₃ : List ℕ) → List Act
 provisioning key C n₁ n₂ n₃ =
     calls (accountKey key) 0
     ∷ calls (read n₁) 42
-    ∷ writes (requestFrom 0x01 key n₁ []) 42
+    ∷ sends (requestFrom 0x01 key n₁ []) 0 42
     ∷ calls (read n₂) 42
-    ∷ writes (requestFrom 0x02 key n₂ C) 42
+    ∷ sends (requestFrom 0x02 key n₂ C) 0 42
     ∷ calls disconnect 0
     ∷ calls button 42
     ∷ calls (read n₃) 42
@@ -56,7 +57,7 @@ pub record Shown (s : Settings) (key C n₁ n₂ n₃ : List ℕ) : Type 0 where
   pub setBy : SetBy (fresh s) (provisioning key C n₁ n₂ n₃) C
   pub recovers : getD (recovering key C n₃) 0 0 ≡ 0x04
   pub accepted : (answer : List ℕ)
-      × (step (writes (recovering key C n₃) 42) (after (provisioning key C n₁ n₂ n₃) (fresh s)) .result ≡ gives answer)
+      × (step (sends (recovering key C n₃) 0 42) (after (provisioning key C n₁ n₂ n₃) (fresh s)) .result ≡ gives answer)
       × (dataOf answer ≡ C)
 
 pub record RecoveryExample : Type 0 where

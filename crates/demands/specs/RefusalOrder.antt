@@ -1,5 +1,5 @@
 -- The refusal list over all calls, in literal numbers: "Each is given exactly then .. Order: 6, 2, then the call's own; for a lent identifier
--- 2, then 1, then 5. A new unit checks only 1." A call is refused with a number exactly if one of the lines below gives that number, and then
+-- 2, then 1, then 5. A new unit checks only 1." For a write 6, 2, 1, and then the nonce is spent. A call is refused with a number exactly if one of the lines below gives that number, and then
 -- the unit is as it was; a write that is refused with 0x80, 0x81 or 0x82 only spends its nonce.
 use Prim.Native.Nat.{ℕ, _*_, _/_, _≤_, _<_}
 use mathlib.Core.Path.{_≡_}
@@ -13,7 +13,7 @@ use Rattle.unit.specs.declared.TagUnit.{TagUnit}
 use Rattle.unit.specs.WellFormed.{wellFormed}
 use Rattle.tag.specs.Calls.{newUnit, Written, read, write, button, battery, accountKey, identifier, frame, Act, calls, waits}
 use Rattle.demands.specs.History.{step}
-use Rattle.demands.specs.Spelled.{keyAtPlace, nonceAtPlace, OnlySpends}
+use Rattle.demands.specs.Spelled.{bit, NoBitOutside, keyAtPlace, nonceAtPlace, OnlySpends}
 use Rattle.demands.specs.Refused.{Reason}
 
 -- "Calls with answer bytes: read, write, button, elapsed, frame." The act, and how many it is lent
@@ -29,8 +29,10 @@ pub data Own (u : TagUnit) : Act → ℕ → Type 0 where
   -- 3: "lent nonce not 8 bytes"; "when the lent nonce equals any of the last 16 issued, live or spent"
   nonceLength : {nonce : List ℕ} {room : ℕ} → (length nonce ≡ 8 → ⊥) → Own u (calls (read nonce) room) 3
   nonceHeld : {nonce : List ℕ} {room : ℕ} (p : ℕ) → p < u .nonces .count → nonceAtPlace u p ≡ nonce → Own u (calls (read nonce) room) 3
-  -- 0x80, 0x81, 0x82
-  ofWrite : {w : Written} {room n : ℕ} → Reason u (w .bytes) n → Own u (calls (write w) room) n
+  -- 1: "A lent mask with a bit outside the ringable mask is refused with 1, after 6 and 2 and before the nonce is spent.", whatever is written
+  reachOutside : {w : Written} {room : ℕ} (i : ℕ) → u .settings .components ≤ i → bit (w .reach) i ≡ 1 → Own u (calls (write w) room) 1
+  -- 0x80, 0x81, 0x82, where 1 is not due
+  ofWrite : {w : Written} {room n : ℕ} → NoBitOutside (u .settings .components) (w .reach) → Reason u (w .bytes) n → Own u (calls (write w) room) n
   -- 1: "settings or battery out of range"
   batteryLevel : {level room : ℕ} → 3 < level → Own u (calls (battery level) room) 1
   -- 4: "account key not 16 bytes, or a sixth new key"; "Adding a key already held succeeds and changes nothing, even when full."

@@ -1,5 +1,6 @@
 -- Demand 2, that no other write is served: why a write is refused with 0x80, 0x81 or 0x82, in literal numbers. Exactly for these reasons, and
--- each only spends the nonce. A write that has none of them is served, and `Accepted` says with what.
+-- each only spends the nonce. A write that has none of them is served, and `Accepted` says with what. None of them looks at the mask of reachable
+-- parts, if it passed: "values" too are those of the mask that is asked for.
 use Prim.Native.Nat.{ℕ, _+_, _*_, _/_, _%_, _^_, _≤_, _<_}
 use mathlib.Core.Path.{_≡_}
 use mathlib.Core.Bool.{true, false}
@@ -11,8 +12,8 @@ use Rattle.unit.specs.declared.Owner.{Owner}
 use Rattle.unit.specs.declared.Protection.{Protection}
 use Rattle.unit.specs.WellFormed.{wellFormed}
 use Rattle.unit.specs.Outcome.{Outcome}
-use Rattle.demands.specs.History.{step, writes}
-use Rattle.demands.specs.Spelled.{keyFrom, proofFrom, tagFrom, keyAtPlace, OwnedWith, OnlySpends}
+use Rattle.demands.specs.History.{step, sends}
+use Rattle.demands.specs.Spelled.{keyFrom, proofFrom, tagFrom, keyAtPlace, OwnedWith, NoBitOutside, OnlySpends}
 
 -- "Legal lengths: 0x00, 0x01, 0x04, 0x06: 8; 0x02: 40 or 48; 0x03, 0x08: 16; 0x05: 12; 0x07: 8 or 9"
 pub data LegalLength : ℕ → ℕ → Type 0 where
@@ -114,10 +115,12 @@ pub record RefusedWith (n : ℕ) (u : TagUnit) (o : Outcome) : Type 0 where
   pub unit : OnlySpends u (o .unit)
 
 pub record Refused : Type 0 where
-  pub refused : (u : TagUnit) (room : ℕ) (w : List ℕ) (n : ℕ) → wellFormed u ≡ true → 42 ≤ room → Reason u w n
-      → RefusedWith n u (step (writes w room) u)
-  pub onlyThen : (u : TagUnit) (room : ℕ) (w : List ℕ) (n : ℕ) → wellFormed u ≡ true → 42 ≤ room
-      → step (writes w room) u .result ≡ refuses n
+  pub refused : (u : TagUnit) (reach room : ℕ) (w : List ℕ) (n : ℕ) → wellFormed u ≡ true → 42 ≤ room → NoBitOutside (u .settings .components) reach
       → Reason u w n
-  pub served : (u : TagUnit) (room : ℕ) (w : List ℕ) → wellFormed u ≡ true → 42 ≤ room → ((n : ℕ) → Reason u w n → ⊥)
-      → (answer : List ℕ) × (step (writes w room) u .result ≡ gives answer)
+      → RefusedWith n u (step (sends w reach room) u)
+  pub onlyThen : (u : TagUnit) (reach room : ℕ) (w : List ℕ) (n : ℕ) → wellFormed u ≡ true → 42 ≤ room → NoBitOutside (u .settings .components) reach
+      → step (sends w reach room) u .result ≡ refuses n
+      → Reason u w n
+  pub served : (u : TagUnit) (reach room : ℕ) (w : List ℕ) → wellFormed u ≡ true → 42 ≤ room → NoBitOutside (u .settings .components) reach
+      → ((n : ℕ) → Reason u w n → ⊥)
+      → (answer : List ℕ) × (step (sends w reach room) u .result ≡ gives answer)

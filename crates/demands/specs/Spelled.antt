@@ -1,6 +1,6 @@
 -- What phones send and see, in literal numbers over SHA256 and HMAC alone, and what of a unit stays: the words in which the statements here
 -- hold the definitions of the crates below. So none of those definitions is cited, and one that is wrong there is refused here.
-use Prim.Native.Nat.{ℕ, _+_, _*_, _<_, _≤_}
+use Prim.Native.Nat.{ℕ, _+_, _*_, _/_, _%_, _^_, _<_, _≤_}
 use mathlib.Core.Path.{_≡_}
 use mathlib.Core.Bool.{Bool, true, false, _||_}
 use mathlib.Core.List.{List, [], _∷_, _++_}
@@ -34,6 +34,13 @@ answerFrom id key nonce «data» =
     ∷ (8 + length «data»)
     ∷ take 8 (HMAC key (0x01 ∷ nonce ++ (id ∷ (8 + length «data») ∷ «data» ++ (0x01 ∷ []))))
     ++ «data»
+
+-- bit i of a mask stands for part i; a mask without "a bit outside the ringable mask" has only parts below the component number
+abbrev pub bit : ℕ → ℕ → ℕ
+bit mask i = mask / 2 ^ i % 2
+
+abbrev pub NoBitOutside : ℕ → ℕ → Type 0
+NoBitOutside components mask = (i : ℕ) → components ≤ i → bit mask i ≡ 0
 
 -- the account key at a place of the table, 16 bytes each; and whose key the owner's is
 abbrev pub keyAtPlace : TagUnit → ℕ → List ℕ

@@ -15,12 +15,12 @@ use Rattle.notation.specs.Written.{PutsText}
 use Rattle.tag.specs.Calls.{Call, read, write, button, pairing, battery, accountKey, disconnect, identifier, frame}
 use Rattle.events.specs.Event.{Event, asks, elapsed, performed, printed}
 
--- what an event of the code stands for, with its number, an identifier's r, and its bytes, which stand beside it
-abbrev pub askOf : Ask → List ℕ → Call
-askOf ask.Read b = read b
-askOf ask.Write b = write (record { bytes = b })
-askOf ask.Button b = button
-askOf ask.Frame b = frame
+-- what an event of the code stands for, with its number, the bytes kept from the line before, and its bytes, which stand beside it
+abbrev pub askOf : Ask → ℕ → List ℕ → List ℕ → Call
+askOf ask.Read n kept b = read b
+askOf ask.Write n kept b = write (record { bytes = kept; reach = n })
+askOf ask.Button n kept b = button
+askOf ask.Frame n kept b = frame
 
 abbrev pub settingOf : Setting → ℕ → List ℕ → List ℕ → Call
 settingOf (setting.Pairing flag) n kept b = pairing flag
@@ -30,7 +30,7 @@ settingOf setting.Disconnect n kept b = disconnect
 settingOf setting.Identifier n kept b = identifier kept b
 
 abbrev pub eventOf : code.Event → ℕ → List ℕ → List ℕ → Event
-eventOf (event.Asks a) n kept b = asks (askOf a b)
+eventOf (event.Asks a) n kept b = asks (askOf a n kept b)
 eventOf (event.Sets s) n kept b = asks (settingOf s n kept b)
 eventOf event.Elapsed n kept b = elapsed n
 

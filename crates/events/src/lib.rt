@@ -25,7 +25,7 @@ pub enum Setting {
     Disconnect,
 }
 
-// An event. Its number or its bytes, and an identifier's r, stand beside it.
+// An event. Its number or its bytes, and those kept from the line before, stand beside it.
 pub enum Event {
     Asks(Ask),
     Sets(Setting),
@@ -36,24 +36,32 @@ pub fn perform(
     u: TagUnit,
     e: Event,
     number: u32,
-    r: &[u8],
+    kept: &[u8],
     bytes: &[u8],
     out: &mut [u8],
     at: usize,
 ) -> Performed
     requires { ⌜ at + lineRoom ≤ length (now out) ⌝ }
-    ensures { λ p. ⌜ Performs (eventOf e number (now (r .entry)) (now (bytes .entry))) u at (now (out .entry)) (p .unit) (p .written) (now (out .exit)) ⌝ }
+    ensures { λ p. ⌜ Performs (eventOf e number (now (kept .entry)) (now (bytes .entry))) u at (now (out .entry)) (p .unit) (p .written) (now (out .exit)) ⌝ }
 {
     match e {
-        Event::Asks(what) => asked(u, what, bytes, out, at),
-        Event::Sets(what) => set(u, what, number, r, bytes, out, at),
+        Event::Asks(what) => asked(u, what, number, kept, bytes, out, at),
+        Event::Sets(what) => set(u, what, number, kept, bytes, out, at),
         Event::Elapsed => elapse(u, number, out, at),
     }
 }
 
-fn asked(u: TagUnit, what: Ask, bytes: &[u8], out: &mut [u8], at: usize) -> Performed
+fn asked(
+    u: TagUnit,
+    what: Ask,
+    number: u32,
+    kept: &[u8],
+    bytes: &[u8],
+    out: &mut [u8],
+    at: usize,
+) -> Performed
     requires { ⌜ at + lineRoom ≤ length (now out) ⌝ }
-    ensures { λ p. ⌜ Performs (event.asks (askOf what (now (bytes .entry)))) u at (now (out .entry)) (p .unit) (p .written) (now (out .exit)) ⌝ }
+    ensures { λ p. ⌜ Performs (event.asks (askOf what number (now (kept .entry)) (now (bytes .entry)))) u at (now (out .entry)) (p .unit) (p .written) (now (out .exit)) ⌝ }
 {
     let mut answer = [0u8; ANSWER_ROOM];
     match what {
@@ -62,7 +70,7 @@ fn asked(u: TagUnit, what: Ask, bytes: &[u8], out: &mut [u8], at: usize) -> Perf
             printing::answered(step, b"answer=read\n", &answer, out, at)
         }
         Ask::Write => {
-            let step = tag::write(u, bytes, &mut answer);
+            let step = tag::write(u, kept, number, &mut answer);
             printing::answered(step, b"answer=write\n", &answer, out, at)
         }
         Ask::Button => {

@@ -23,6 +23,7 @@ use Rattle.unit.specs.declared.Reply.the-variants.{Done, Refused}
 use Rattle.unit.specs.declared.Refusal.{Refusal}
 use Rattle.unit.specs.declared.Refusal.the-variants.{NotAuthenticated, InvalidValue, NoConsent, OutOfRange, NotWellFormed, WrongNonce, WrongAccountKey, NoFrame, NoRoom}
 use Rattle.unit.specs.Refusals.{End, refusalNumber, endOf, ending}
+use Rattle.unit.specs.Ringable.{inside}
 use Rattle.unit.specs.Standing.{stands}
 use Rattle.unit.specs.Change.{spent}
 use Rattle.unit.specs.WellFormed.{wellFormed, settingsLegal, heldKeys}
@@ -104,7 +105,8 @@ pressed-untimed (Sound.Ringing mask volume left) u = untimed
 own-untimed : (c : Call) (u : TagUnit) → Untimed (own c u)
 unfolding own issuing written charged keeping disconnected lending showing
 own-untimed (read nonce) u = either (nonceFits (u .nonces) nonce) untimed untimed
-own-untimed (write w) u = concluded-untimed (spent u) (judged u (w .bytes))
+own-untimed (write w) u =
+    either (inside (w .reach) (u .settings .components)) (concluded-untimed (spent u) (judged u (w .bytes) (w .reach))) untimed
 own-untimed button u = pressed-untimed (u .sound) u
 own-untimed (pairing on) u = untimed
 own-untimed (battery level) u = either (leb level highestBattery) untimed untimed

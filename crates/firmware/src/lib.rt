@@ -51,13 +51,14 @@ pub extern "C" fn tag_read(bytes: &mut [u8], nonce: &[u8], answer: &mut [u8]) ->
     exports::finish(bytes, after, reply)
 }
 
-// Write: a request of the phone's. Refusals: 6, 2, and then, with the nonce spent, 0x81, 0x80, 0x81, 0x82.
+// Write: a request of the phone's, with the mask of the parts that can be reached now. Refusals: 6, 2, 1, and then, with the nonce spent, 0x81, 0x80,
+// 0x81, 0x82.
 #[no_mangle]
-pub extern "C" fn tag_write(bytes: &mut [u8], request: &[u8], answer: &mut [u8]) -> u64
-    ensures { λ code. ⌜ ExportsAnswer (call (of.write (record { bytes = now (request .entry) })) (length (now (answer .entry))) (decoded (now (bytes .entry)))) code (now (bytes .entry)) (now (bytes .exit)) (now (answer .entry)) (now (answer .exit)) ⌝ }
+pub extern "C" fn tag_write(bytes: &mut [u8], request: &[u8], reach: u32, answer: &mut [u8]) -> u64
+    ensures { λ code. ⌜ ExportsAnswer (call (of.write (record { bytes = now (request .entry); reach = reach })) (length (now (answer .entry))) (decoded (now (bytes .entry)))) code (now (bytes .entry)) (now (bytes .exit)) (now (answer .entry)) (now (answer .exit)) ⌝ }
 {
     let unit = stored::decode(bytes);
-    let step = tag::write(unit, request, answer);
+    let step = tag::write(unit, request, reach, answer);
     let after = step.unit;
     let reply = step.reply;
     exports::finish(bytes, after, reply)

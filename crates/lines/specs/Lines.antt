@@ -7,7 +7,7 @@ use lib.IntN.{ℤ}
 use Rattle.laws.specs.Bytes.{sameBytes}
 use Rattle.tag.specs.Calls.{Call, read, write, button, pairing, battery, accountKey, disconnect, identifier, frame}
 use Rattle.notation.specs.Text.{ascii}
-use Rattle.notation.specs.Reading.{after, unsigned, signed, flag, bytes}
+use Rattle.notation.specs.Reading.{after, unsigned, signed, flag, bytes, oneByte}
 use Rattle.events.specs.Event.{Event, asks, elapsed}
 
 -- "First the three settings, then events, each followed by its own lines": a line of the settings or of an event, with what was read
@@ -18,6 +18,7 @@ pub data Awaited : Type 0 where
   volume : ℤ → ℕ → Awaited
   nonce : Awaited
   «data» : Awaited
+  reach : List ℕ → Awaited
   tenths : Awaited
   on : Awaited
   level : Awaited
@@ -63,7 +64,8 @@ held power l = given (after (ascii "power=") l) (λ v. given (signed v) (λ p. f
 held (components p) l = given (after (ascii "components=") l) (λ v. given (unsigned v) (λ c. follows (volume p c)))
 held (volume p c) l = given (after (ascii "volume=") l) (λ v. given (unsigned v) (λ s. setsUp p c s))
 held nonce l = given (after (ascii "nonce=") l) (λ v. given (bytes v) (λ b. brings (asks (read b))))
-held «data» l = given (after (ascii "data=") l) (λ v. given (bytes v) (λ b. brings (asks (write (record { bytes = b })))))
+held «data» l = given (after (ascii "data=") l) (λ v. given (bytes v) (λ b. follows (reach b)))
+held (reach b) l = given (after (ascii "reach=") l) (λ v. given (oneByte v) (λ n. brings (asks (write (record { bytes = b; reach = n })))))
 held tenths l = given (after (ascii "tenths=") l) (λ v. given (unsigned v) (λ n. brings (elapsed n)))
 held on l = given (after (ascii "on=") l) (λ v. given (flag v) (λ b. brings (asks (pairing b))))
 held level l = given (after (ascii "level=") l) (λ v. given (unsigned v) (λ n. brings (asks (battery n))))

@@ -15,7 +15,7 @@ use Rattle.lines.specs.declared.Line as told
 use Rattle.lines.specs.declared.Line.the-variants as toldAs
 use Rattle.lines.specs.declared.Told.{Told}
 use Rattle.lines.specs.Lines as lines
-use Rattle.lines.specs.Lines.{Awaited, Expected, inside, power, components, volume, nonce, «data», tenths, on, level, keyBytes, r, id, Line, follows, brings, setsUp, breaks, given}
+use Rattle.lines.specs.Lines.{Awaited, Expected, inside, power, components, volume, nonce, «data», reach, tenths, on, level, keyBytes, r, id, Line, follows, brings, setsUp, breaks, given}
 
 -- what is expected, with what was read before it
 abbrev pub awaiting : code.Awaited → ℤ → ℕ → List ℕ → Awaited
@@ -24,6 +24,7 @@ awaiting awaited.Components p c b = components p
 awaiting awaited.Volume p c b = volume p c
 awaiting awaited.Nonce p c b = nonce
 awaiting awaited.Data p c b = «data»
+awaiting awaited.Reach p c b = reach b
 awaiting awaited.Tenths p c b = tenths
 awaiting awaited.On p c b = on
 awaiting awaited.Level p c b = level
@@ -41,7 +42,7 @@ lineOf (toldAs.Power z) p c kept n b = follows (components z)
 lineOf toldAs.Components p c kept n b = follows (volume p n)
 lineOf toldAs.Volume p c kept n b = setsUp p c n
 lineOf (toldAs.Follows a) p c kept n b = follows (awaiting a p c kept)
-lineOf toldAs.R p c kept n b = follows (id b)
+lineOf (toldAs.Keeps a) p c kept n b = follows (awaiting a p c b)
 lineOf (toldAs.Brings e) p c kept n b = brings (eventOf e n kept b)
 lineOf toldAs.Breaks p c kept n b = breaks
 

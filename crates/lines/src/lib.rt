@@ -22,6 +22,7 @@ pub enum Awaited {
     Volume,
     Nonce,
     Data,
+    Reach,
     Tenths,
     On,
     Level,
@@ -36,13 +37,13 @@ pub enum Next {
     Inside(Awaited),
 }
 
-// What a line means. Its number or its bytes stand beside it.
+// What a line means. Its number or its bytes stand beside it; those of one that keeps them are for the line that follows.
 pub enum Line {
     Power(i32),
     Components,
     Volume,
     Follows(Awaited),
-    R,
+    Keeps(Awaited),
     Brings(Event),
     Breaks,
 }
@@ -75,7 +76,8 @@ fn inside(awaited: Awaited, line: &[u8], into: &mut [u8]) -> Told
         Awaited::Components => number(line, b"components=", Line::Components),
         Awaited::Volume => number(line, b"volume=", Line::Volume),
         Awaited::Nonce => octets(line, b"nonce=", Line::Brings(Event::Asks(Ask::Read)), into),
-        Awaited::Data => octets(line, b"data=", Line::Brings(Event::Asks(Ask::Write)), into),
+        Awaited::Data => octets(line, b"data=", Line::Keeps(Awaited::Reach), into),
+        Awaited::Reach => reach(line),
         Awaited::Tenths => number(line, b"tenths=", Line::Brings(Event::Elapsed)),
         Awaited::On => plain(on(line)),
         Awaited::Level => number(line, b"level=", Line::Brings(Event::Sets(Setting::Battery))),
@@ -85,7 +87,7 @@ fn inside(awaited: Awaited, line: &[u8], into: &mut [u8]) -> Told
             Line::Brings(Event::Sets(Setting::Key)),
             into,
         ),
-        Awaited::R => octets(line, b"r=", Line::R, into),
+        Awaited::R => octets(line, b"r=", Line::Keeps(Awaited::Id), into),
         Awaited::Id => octets(
             line,
             b"id=",
@@ -127,6 +129,23 @@ fn on(line: &[u8]) -> Line
     match reading::flag(&line[3..]) {
         Switch::Value(on) => Line::Brings(Event::Sets(Setting::Pairing(on))),
         Switch::Wrong => Line::Breaks,
+    }
+}
+
+// The parts in reach, one byte behind its key: with the bytes kept they make a write.
+fn reach(line: &[u8]) -> Told
+    ensures { λ r. ⌜ SaysNumber (λ p c b. lines.held (lines.reach b) (now (line .entry))) r ⌝ }
+{
+    if !reading::begins(line, b"reach=") {
+        return plain(Line::Breaks);
+    }
+    match reading::one_byte(&line[6..]) {
+        Numeral::Value(parts) => Told {
+            line: Line::Brings(Event::Asks(Ask::Write)),
+            number: parts,
+            count: 0,
+        },
+        Numeral::Wrong => plain(Line::Breaks),
     }
 }
 

@@ -3,3 +3,4 @@ pub mod Hex
 pub mod Decimal
 pub mod Numerals
 pub mod Unhexed
+pub mod OneByte

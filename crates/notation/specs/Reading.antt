@@ -65,3 +65,13 @@ unfoldable pub bytes : List ℕ → Option (List ℕ)
 bytes [] = some []
 bytes (c ∷ []) = none
 bytes (c ∷ (d ∷ cs)) = pairValue (hexValue c) (hexValue d) (bytes cs)
+
+-- "one hex byte": two digits, no more and no fewer
+abbrev pub onlyOne : Option (List ℕ) → Option ℕ
+onlyOne none = none
+onlyOne (some []) = none
+onlyOne (some (b ∷ [])) = some b
+onlyOne (some (b ∷ (c ∷ bs))) = none
+
+unfoldable pub oneByte : List ℕ → Option ℕ
+oneByte cs = onlyOne (bytes cs)

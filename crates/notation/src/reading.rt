@@ -3,7 +3,7 @@ ghost use mathlib.Core.Path.{_≡_};
 ghost use Prim.Native.Nat.{_*_, _≤_};
 ghost use lib.ListN.{length, take};
 ghost use Rattle.laws.specs.Bytes.{sameBytes};
-ghost use Rattle.notation.specs.Reading.{unsigned as unsignedOf, signed as signedOf, flag as flagOf, hexValue, negative, positive};
+ghost use Rattle.notation.specs.Reading.{unsigned as unsignedOf, signed as signedOf, flag as flagOf, hexValue, oneByte, negative, positive};
 ghost use Rattle.notation.specs.Values.{numeralOf, signedNumeralOf, switchOf, nibbleOf, inDigits, Unhexes};
 
 pub enum Numeral {
@@ -157,6 +157,24 @@ fn nibble(c: u8) -> u8
         return WRONG;
     }
     c - 87
+}
+
+// One byte in hexadecimal, two digits.
+pub fn one_byte(text: &[u8]) -> Numeral
+    ensures { λ r. ⌜ numeralOf r ≡ oneByte (now (text .entry)) ⌝ }
+{
+    if text.len() != 2 {
+        return Numeral::Wrong;
+    }
+    let high = nibble(text[0]);
+    let low = nibble(text[1]);
+    if WRONG <= high {
+        return Numeral::Wrong;
+    }
+    if WRONG <= low {
+        return Numeral::Wrong;
+    }
+    Numeral::Value((high * 16 + low) as u32)
 }
 
 // Bytes in hexadecimal, two digits each, into lent bytes.

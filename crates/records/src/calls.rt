@@ -1,5 +1,6 @@
 // The public calls, by the names that a session file has for them.
 use crate::table::MOST;
+use crate::table::byte;
 use crate::table::bytes;
 use crate::table::number;
 use crate::table::value;
@@ -67,7 +68,7 @@ fn read(row: &[u8], record: &mut [u8], answer: &mut [u8]) -> u64 {
 fn write(row: &[u8], record: &mut [u8], answer: &mut [u8]) -> u64 {
     let mut request = [0u8; MOST];
     let count = bytes(row, b"data=", &mut request);
-    firmware::tag_write(record, &request[..count], answer)
+    firmware::tag_write(record, &request[..count], byte(row, b"reach="), answer)
 }
 
 fn account_key(row: &[u8], record: &mut [u8]) -> u64 {

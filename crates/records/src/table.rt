@@ -6,6 +6,7 @@ ghost use Rattle.io.specs.Counts.{Counts};
 use libc::STDOUT_FILENO;
 use notation::reading::Numeral;
 use notation::reading::Octets;
+use notation::reading::one_byte;
 use notation::reading::unhex;
 use notation::reading::unsigned;
 
@@ -65,6 +66,15 @@ pub fn bytes(row: &[u8], key: &[u8], into: &mut [u8; MOST]) -> usize
         if let Octets::Count(n) = unhex(text, into) {
             return n;
         }
+    }
+    io::write_all(STDOUT_FILENO, b"malformed ");
+    0
+}
+
+// A value of one byte in hexadecimal.
+pub fn byte(row: &[u8], key: &[u8]) -> u32 {
+    if let Numeral::Value(n) = one_byte(value(row, key)) {
+        return n;
     }
     io::write_all(STDOUT_FILENO, b"malformed ");
     0

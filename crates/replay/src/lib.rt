@@ -40,7 +40,7 @@ pub fn begin() -> Session
             number: 1,
             power: 0,
             components: 0,
-            r: [0u8; 128],
+            kept: [0u8; 128],
             filled: 0,
             unit: no_unit(),
         },

@@ -12,6 +12,7 @@ use Rattle.wire.specs.Shape.{Request, request, parsed, sizeLegal, shapeLegal}
 use Rattle.wire.specs.declared.Head.{Head}
 use Rattle.unit.specs.Change.{spent}
 use Rattle.unit.specs.Refusals.{refusalNumber}
+use Rattle.unit.specs.Ringable.{inside}
 use Rattle.unit.specs.Outcome.{Answers}
 use Rattle.unit.specs.WellFormed.{wellFormed}
 use Rattle.unit.specs.declared.TagUnit.{TagUnit}
@@ -19,6 +20,7 @@ use Rattle.unit.specs.declared.Step.{Step}
 use Rattle.unit.specs.declared.Reply.{Reply}
 use Rattle.unit.specs.declared.Refusal.{Refusal}
 use Rattle.unit.proofs.Kept.{spent-kept}
+use Rattle.unit.proofs.Ends.{refused-answers}
 use Rattle.authentication.specs.Judgement.{rejects, notAuthenticated, invalidValue, concluded}
 use Rattle.authentication.specs.declared.Verdict.{Verdict}
 use Rattle.authentication.specs.Promises.{Ready, Judges, judgementOf}
@@ -27,39 +29,47 @@ use Rattle.sizes.specs.Sizes.{headSize}
 use Rattle.requests.specs.Write.{byId, needsKey, keyThere, judged, written}
 use Rattle.requests.proofs.Shaped.{sizes-legal, length-is, head-inside}
 
-module _ (u : TagUnit) (q : Request) where
+module _ (u : TagUnit) (q : Request) (reach : ℕ) where
   pub chosen-none : (q .id ≡ 0 → ⊥) → (q .id ≡ 1 → ⊥) → (q .id ≡ 2 → ⊥) → (q .id ≡ 3 → ⊥) → (q .id ≡ 4 → ⊥) → (q .id ≡ 5 → ⊥) → (q .id ≡ 6 → ⊥)
-      → (q .id ≡ 7 → ⊥) → (q .id ≡ 8 → ⊥) → byId u q ≡ invalidValue
+      → (q .id ≡ 7 → ⊥) → (q .id ≡ 8 → ⊥) → byId u q reach ≡ invalidValue
   unfolding byId
   chosen-none e0 e1 e2 e3 e4 e5 e6 e7 e8 =
       let i = q .id in
       rw (ne-eqb i 0 e0, ne-eqb i 1 e1, ne-eqb i 2 e2, ne-eqb i 3 e3, ne-eqb i 4 e4, ne-eqb i 5 e5, ne-eqb i 6 e6, ne-eqb i 7 e7, ne-eqb i 8 e8)
 
-module _ (u : TagUnit) (w : List ℕ) where
-  pub judged-shapeless : shapeLegal w ≡ false → judged u w ≡ invalidValue
+module _ (u : TagUnit) (w : List ℕ) (reach : ℕ) where
+  pub judged-shapeless : shapeLegal w ≡ false → judged u w reach ≡ invalidValue
   unfolding judged
   judged-shapeless unmet = rw unmet
 
   module _ (shaped : shapeLegal w ≡ true) where
-    pub judged-dead : u .nonces .live ≡ false → judged u w ≡ notAuthenticated
+    pub judged-dead : u .nonces .live ≡ false → judged u w reach ≡ notAuthenticated
     unfolding judged
     judged-dead unmet = rw (shaped, unmet)
 
     module _ (live : u .nonces .live ≡ true) where
-      pub judged-keyless : keyThere u (parsed w) ≡ false → judged u w ≡ notAuthenticated
+      pub judged-keyless : keyThere u (parsed w) ≡ false → judged u w reach ≡ notAuthenticated
       unfolding judged
       judged-keyless unmet = rw (shaped, live, unmet)
 
-      pub judged-by-id : keyThere u (parsed w) ≡ true → judged u w ≡ byId (spent u) (parsed w)
+      pub judged-by-id : keyThere u (parsed w) ≡ true → judged u w reach ≡ byId (spent u) (parsed w) reach
       unfolding judged
       judged-by-id met = rw (shaped, live, met)
 
-  -- The whole write, on the unit with its nonce spent
-  module _ {after : TagUnit} (changed : after ≡ spent u) where
+  -- The whole write: refused with a reach that is outside, and else judged on the unit with its nonce spent
+  pub reach-refused : (r : Step) (lent : List ℕ) → (r .unit ≡ u) × (r .reply ≡ Reply.Refused Refusal.OutOfRange)
+      → inside reach (u .settings .components) ≡ false → Answers (written u w reach) (r .unit) (r .reply) lent lent
+  unfolding written
+  reach-refused r lent ends unmet = rw unmet (refused-answers lent ends)
+
+  written-judged : inside reach (u .settings .components) ≡ true → written u w reach ≡ concluded (spent u) (judged u w reach)
+  unfolding written
+  written-judged met = rw met
+
+  module _ (within : inside reach (u .settings .components) ≡ true) {after : TagUnit} (changed : after ≡ spent u) where
     pub write-refused : (r : Step) (x : Refusal) (lent : List ℕ) → (r .unit ≡ after) × (r .reply ≡ Reply.Refused x)
-        → judged u w ≡ rejects (refusalNumber x) → Answers (written u w) (r .unit) (r .reply) lent lent
-    unfolding written
-    write-refused r x lent ends is = refusal (spent u) (judged u w) r x lent (ends .0 ∙ changed, ends .1) is
+        → judged u w reach ≡ rejects (refusalNumber x) → Answers (written u w reach) (r .unit) (r .reply) lent lent
+    write-refused r x lent ends is = rw (written-judged within) (refusal (spent u) (judged u w reach) r x lent (ends .0 ∙ changed, ends .1) is)
 
     pub after-formed : wellFormed u ≡ true → wellFormed after ≡ true
     after-formed formed = rw changed (spent-kept u formed)
@@ -84,11 +94,10 @@ module _ (u : TagUnit) (w : List ℕ) where
             rw (id, size) (sizes-legal w shaped),
           )
 
-      pub write-judged : (r : Step) {v : Verdict} {before last : List ℕ} → judged u w ≡ byId (spent u) (parsed w)
-          → Judges after (h .id) (byId after (request h (take (length w - headSize) (drop headSize w)))) v
+      pub write-judged : (r : Step) {v : Verdict} {before last : List ℕ} → judged u w reach ≡ byId (spent u) (parsed w) reach
+          → Judges after (h .id) (byId after (request h (take (length w - headSize) (drop headSize w))) reach) v
           → Answers (concluded after (judgementOf after (h .id) v (v .ruling))) (r .unit) (r .reply) before last
-          → Answers (written u w) (r .unit) (r .reply) before last
-      unfolding written
+          → Answers (written u w reach) (r .unit) (r .reply) before last
       write-judged r is p ends =
-          let e = is ∙ ap (λ (q : Request). byId (spent u) q) (sym head) in
-          rw (e, ← changed) (rw (← p .judgedSo, tail-is) at ends)
+          let e = is ∙ ap (λ (q : Request). byId (spent u) q reach) (sym head) in
+          rw (written-judged within, e, ← changed) (rw (← p .judgedSo, tail-is) at ends)

@@ -1,4 +1,5 @@
--- "Read and write": a write as a whole, on a well-formed unit with room for the answer.
+-- "Read and write": a write as a whole, on a well-formed unit with room for the answer. `reach` is the mask of reachable parts: "The host lends the
+-- mask of reachable parts with each write".
 use Prim.Native.Nat.{ℕ}
 use mathlib.Core.Bool.{Bool, cond, _||_}
 use mathlib.Core.List.{List}
@@ -6,21 +7,22 @@ use lib.Dec.{eqb, ltb}
 use Rattle.wire.specs.Shape.{Request, parsed, shapeLegal}
 use Rattle.unit.specs.declared.TagUnit.{TagUnit}
 use Rattle.unit.specs.Change.{spent, keyed}
-use Rattle.unit.specs.Outcome.{Outcome}
+use Rattle.unit.specs.Ringable.{inside}
+use Rattle.unit.specs.Outcome.{Outcome, refusing}
 use Rattle.authentication.specs.Judgement.{Judgement, notAuthenticated, invalidValue, unless, concluded}
 use Rattle.provisioning.specs.Provisioning.{readParameters, readState, setKey, clearKey, recoverKey}
 use Rattle.ringing.specs.Ringing.{ring, readSound}
 use Rattle.ringing.specs.Protecting.{protect, unprotect}
 
--- the request by its ID
-unfoldable pub byId : TagUnit → Request → Judgement
-byId u q =
+-- the request by its ID; only a ring looks at the reach
+unfoldable pub byId : TagUnit → Request → ℕ → Judgement
+byId u q reach =
     cond (eqb (q .id) 0x00) (readParameters u q)
     (cond (eqb (q .id) 0x01) (readState u q)
     (cond (eqb (q .id) 0x02) (setKey u q)
     (cond (eqb (q .id) 0x03) (clearKey u q)
     (cond (eqb (q .id) 0x04) (recoverKey u q)
-    (cond (eqb (q .id) 0x05) (ring u q)
+    (cond (eqb (q .id) 0x05) (ring u q reach)
     (cond (eqb (q .id) 0x06) (readSound u q)
     (cond (eqb (q .id) 0x07) (protect u q)
     (cond (eqb (q .id) 0x08) (unprotect u q) invalidValue))))))))
@@ -34,12 +36,13 @@ keyThere u q = ltb (q .id) needsKey || keyed u
 
 -- "An unknown ID or any other count: 0x81. Then, in order: no live nonce, 0x80 (house: skip-authentication ringing needs one too);
 -- tag and key proofs, 0x80; values, 0x81; consent, 0x82." The request is judged on the unit with its nonce spent
-unfoldable pub judged : TagUnit → List ℕ → Judgement
-judged u w =
+unfoldable pub judged : TagUnit → List ℕ → ℕ → Judgement
+judged u w reach =
     unless (shapeLegal w) invalidValue
     (unless (u .nonces .live) notAuthenticated
-    (unless (keyThere u (parsed w)) notAuthenticated (byId (spent u) (parsed w))))
+    (unless (keyThere u (parsed w)) notAuthenticated (byId (spent u) (parsed w) reach)))
 
--- "Every write that passes 6 and 2 spends the live nonce, whatever follows"
-unfoldable pub written : TagUnit → List ℕ → Outcome
-written u w = concluded (spent u) (judged u w)
+-- "A lent mask with a bit outside the ringable mask is refused with 1, after 6 and 2 and before the nonce is spent." Every write that passes 6, 2 and
+-- this "spends the live nonce, whatever follows"
+unfoldable pub written : TagUnit → List ℕ → ℕ → Outcome
+written u w reach = cond (inside reach (u .settings .components)) (concluded (spent u) (judged u w reach)) (refusing 1 u)

@@ -1,4 +1,4 @@
-// A write as a whole, on a well-formed unit with room for the answer: shape, live nonce, and the request by its ID.
+// A write as a whole, on a well-formed unit with room for the answer: reach, shape, live nonce, and the request by its ID.
 ghost use mathlib.Core.Path.{_≡_};
 ghost use mathlib.Core.Bool.{true, _||_};
 ghost use Prim.Native.Nat.{_≤_};
@@ -23,15 +23,16 @@ use unit::Step;
 use unit::TagUnit;
 use unit::change;
 use unit::end;
+use unit::mask;
 use wire::Head;
 
 // The first request that needs an identity key.
 const FIRST_KEYED: u8 = 0x03;
 
-// Hands the request, with the write's tail as its additional data, to the handler of its ID.
-fn by_id(u: TagUnit, h: Head, additional: &[u8]) -> Verdict
+// Hands the request, with the write's tail as its additional data, to the handler of its ID. A ring is also handed the reachable parts.
+fn by_id(u: TagUnit, h: Head, additional: &[u8], reach: u8) -> Verdict
     requires { ⌜ Ready u (h .size) (now additional) × (sizeLegal (h .id) (h .size) ≡ true) ⌝ }
-    ensures { λ r. ⌜ Judges u (h .id) (byId u (request h (now (additional .entry)))) r ⌝ }
+    ensures { λ r. ⌜ Judges u (h .id) (byId u (request h (now (additional .entry))) reach) r ⌝ }
 {
     let id = h.id;
     match id {
@@ -40,7 +41,7 @@ fn by_id(u: TagUnit, h: Head, additional: &[u8]) -> Verdict
         0x02 => key::set_key(u, h, additional),
         0x03 => key::clear_key(u, h, additional),
         0x04 => key::recover_key(u, h, additional),
-        0x05 => sounding::ring(u, h, additional),
+        0x05 => sounding::ring(u, h, additional, reach),
         0x06 => sounding::read_sound(u, h, additional),
         0x07 => protecting::protect(u, h, additional),
         0x08 => protecting::unprotect(u, h, additional),
@@ -83,12 +84,15 @@ fn key_there(id: u8, held: bool) -> bool
     held
 }
 
-// The whole write. It spends the live nonce, whatever follows.
-pub fn write(u: TagUnit, w: &[u8], answer: &mut [u8]) -> Step
+// The whole write. With a reach outside the ringable mask it is refused; else it spends the live nonce, whatever follows.
+pub fn write(u: TagUnit, w: &[u8], reach: u32, answer: &mut [u8]) -> Step
     requires { ⌜ (wellFormed u ≡ true) × (answerRoom ≤ length (now answer)) ⌝ }
-    ensures { λ r. ⌜ Answers (written u (now (w .entry))) (r .unit) (r .reply) (now (answer .entry)) (now (answer .exit)) ⌝ }
+    ensures { λ r. ⌜ Answers (written u (now (w .entry)) reach) (r .unit) (r .reply) (now (answer .entry)) (now (answer .exit)) ⌝ }
 {
     let after = change::spent(u);
+    if !mask::inside(reach, u.settings.components) {
+        return end::refuse(u, Refusal::OutOfRange);
+    }
     if !shape_legal(w) {
         return end::refuse(after, Refusal::InvalidValue);
     }
@@ -99,6 +103,6 @@ pub fn write(u: TagUnit, w: &[u8], answer: &mut [u8]) -> Step
     if !key_there(h.id, u.identity.held) {
         return end::refuse(after, Refusal::NotAuthenticated);
     }
-    let v = by_id(after, h, &w[HEAD_SIZE..]);
+    let v = by_id(after, h, &w[HEAD_SIZE..], reach as u8);
     answering::conclude(after, v, h.id, answer)
 }

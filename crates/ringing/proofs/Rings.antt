@@ -2,7 +2,7 @@
 use Prim.Native.Nat.{ℕ, _+_, _*_, _≤_, _<_}
 use mathlib.Core.Path.{_≡_, sym, ap, _∙_}
 use mathlib.Core.Bool.{Bool, true, false, _&&_, _||_}
-use mathlib.Core.List.{List}
+use mathlib.Core.List.{List, _∷_}
 use native.Mathlib.Nat.{zero-add}
 use native.Mathlib.Omega.{arith}
 use lib.Dec.{eqb, leb}
@@ -11,7 +11,7 @@ use lib.Seq.{drop-cons}
 use borrow.Author.Tests.{eq-eqb, ne-eqb, le-leb, lt-leb}
 use Rattle.laws.specs.Bytes.{number, numberAfter}
 use Rattle.laws.proofs.Flags.{and-fails-left}
-use Rattle.wire.specs.Signing.{ringKey, signed, ringId, noticeData, ringNotice, started, byRequest}
+use Rattle.wire.specs.Signing.{ringKey, signed, ringId, noticeData, ringNotice, started, failed, byRequest}
 use Rattle.wire.specs.Shape.{Request}
 use Rattle.unit.specs.Change.{withSound, silenced}
 use Rattle.sizes.specs.Sizes.{highestVolume, longestRing}
@@ -20,7 +20,8 @@ use Rattle.unit.specs.declared.TagUnit.{TagUnit}
 use Rattle.unit.specs.declared.Settings.{Settings}
 use Rattle.unit.specs.declared.Sound.{Sound}
 use Rattle.authentication.specs.Judgement.{accepts, notAuthenticated, invalidValue, lastNonce, tagged, answered}
-use Rattle.ringing.specs.Ringing.{skips, ringData, askedMask, allOfNone, askedTimeout, askedVolume, wholeMask, ringMask, ringLegal, heldVolume, rung, ring, soundState, readSound}
+use Rattle.ringing.specs.Ringing.{skips, ringData, askedMask, allOfNone, askedTimeout, askedVolume, wholeMask, ringMask, ringLegal, heldVolume, ringDecision, rung, ring, soundState, readSound}
+use Rattle.ringing.specs.declared.sounding.Decision.{Decision}
 
 -- the number of bytes 1 and 2
 pub timeout-is : (a : List ℕ) → length a ≡ ringData → getD a 1 0 * 256 + getD a 2 0 ≡ askedTimeout a
@@ -78,34 +79,42 @@ pub some-asked : (s : Settings) (a : List ℕ) → (askedMask a ≡ wholeMask �
 some-asked s a other = rw (ne-eqb (askedMask a) wholeMask other)
 
 module _ (u : TagUnit) where
-  module _ {mask : ℕ} (volume left : ℕ) {next : TagUnit} where
-    pub rung-stop : {payload : List ℕ} → mask ≡ 0 → next ≡ silenced u → payload ≡ noticeData byRequest 0 0
-        → rung u mask volume left
+  module _ {decision : Decision} (volume left : ℕ) {next : TagUnit} {payload : List ℕ} where
+    pub rung-ring : {mask : ℕ} → decision ≡ Decision.Started mask → next ≡ withSound (Sound.Ringing mask volume left) (lastNonce u) u
+        → payload ≡ noticeData started mask left → rung decision u volume left
         ≡ accepts next (signed (ringKey (u .identity .bytes)) (lastNonce u) ringId payload)
     unfolding rung ringNotice
-    rung-stop none changed d = rw (changed, d, eq-eqb mask 0 none)
+    rung-ring is changed d = rw (changed, d, is)
 
-    pub rung-ring : {payload : List ℕ} → (mask ≡ 0 → ⊥) → next ≡ withSound (Sound.Ringing mask volume left) (lastNonce u) u
-        → payload ≡ noticeData started mask left → rung u mask volume left
+    pub rung-stop : decision ≡ Decision.Stopped → next ≡ silenced u → payload ≡ noticeData byRequest 0 0
+        → rung decision u volume left
         ≡ accepts next (signed (ringKey (u .identity .bytes)) (lastNonce u) ringId payload)
     unfolding rung ringNotice
-    rung-ring some changed d = rw (changed, d, ne-eqb mask 0 some)
+    rung-stop is changed d = rw (changed, d, is)
 
-  module _ (q : Request) where
-    pub ring-kept-out : skips (u .protection) || tagged (ringKey (u .identity .bytes)) (lastNonce u) q ≡ false → ring u q ≡ notAuthenticated
+  pub rung-fail : {decision : Decision} (volume left : ℕ) {payload : List ℕ} → decision ≡ Decision.Failed → payload ≡ failed ∷ soundState (u .sound)
+      → rung decision u volume left
+      ≡ accepts u (signed (ringKey (u .identity .bytes)) (lastNonce u) ringId payload)
+  unfolding rung
+  rung-fail volume left is d = rw (d, is)
+
+  module _ (q : Request) (reach : ℕ) where
+    pub ring-kept-out : skips (u .protection) || tagged (ringKey (u .identity .bytes)) (lastNonce u) q ≡ false → ring u q reach ≡ notAuthenticated
     unfolding ring
     ring-kept-out unmet = rw unmet
 
     module _ (met : skips (u .protection) || tagged (ringKey (u .identity .bytes)) (lastNonce u) q ≡ true) where
-      pub ring-values : ringLegal (u .settings) (q .additional) ≡ false → ring u q ≡ invalidValue
+      pub ring-values : ringLegal (u .settings) (q .additional) ≡ false → ring u q reach ≡ invalidValue
       unfolding ring
       ring-values unmet = rw (met, unmet)
 
-      pub ring-rung : {mask volume left : ℕ} → ringLegal (u .settings) (q .additional) ≡ true → mask ≡ ringMask (u .settings) (q .additional)
-          → volume ≡ heldVolume (u .settings) (q .additional) → left ≡ askedTimeout (q .additional) → ring u q ≡ rung u mask volume left
+      pub ring-rung : {mask volume left : ℕ} {decision : Decision} → ringLegal (u .settings) (q .additional) ≡ true → mask ≡ ringMask (u .settings) (q .additional)
+          → volume ≡ heldVolume (u .settings) (q .additional) → left ≡ askedTimeout (q .additional)
+          → decision ≡ ringDecision (u .sound) mask reach → ring u q reach ≡ rung decision u volume left
       unfolding ring
-      ring-rung legal m v l = rw (m, v, l, met, legal)
+      ring-rung legal m v l d = rw (d, m, v, l, met, legal)
 
+  module _ (q : Request) where
     pub sound-untagged : tagged (ringKey (u .identity .bytes)) (lastNonce u) q ≡ false → readSound u q ≡ notAuthenticated
     unfolding readSound
     sound-untagged unmet = rw unmet

@@ -1,12 +1,13 @@
 -- The requests 0x05 and 0x06: ring, stop, and read what rings. Each is judged on the unit with its nonce spent, and only with an
--- identity key.
+-- identity key; 0x05 also by the mask of reachable parts that the host lends with the write.
 use Prim.Native.Nat.{ℕ}
 use mathlib.Core.Bool.{Bool, false, cond, not, _&&_, _||_}
 use mathlib.Core.List.{List, _∷_}
+use lib.Bits.{bitAnd}
 use lib.Dec.{eqb, leb}
 use lib.ListN.{getD, take, drop}
 use Rattle.laws.specs.Bytes.{bigEndian, number}
-use Rattle.wire.specs.Signing.{ringKey, ringNotice, stopNotice, started, byRequest}
+use Rattle.wire.specs.Signing.{ringKey, ringId, signed, ringNotice, stopNotice, started, failed, byRequest}
 use Rattle.wire.specs.Shape.{Request}
 use Rattle.unit.specs.declared.TagUnit.{TagUnit}
 use Rattle.unit.specs.declared.Settings.{Settings}
@@ -16,6 +17,7 @@ use Rattle.sizes.specs.Sizes.{highestVolume, longestRing}
 use Rattle.unit.specs.Ringable.{ringable, inside}
 use Rattle.unit.specs.Change.{withSound, silenced, keyInForce}
 use Rattle.authentication.specs.Judgement.{Judgement, accepts, notAuthenticated, invalidValue, unless, lastNonce, tagged, answered}
+use Rattle.ringing.specs.declared.sounding.Decision.{Decision}
 
 -- "For 0x05 with protection and skip on, any tag passes"
 abbrev pub skips : Protection → Bool
@@ -58,26 +60,53 @@ ringLegal s a =
 abbrev pub heldVolume : Settings → List ℕ → ℕ
 heldVolume s a = cond (eqb (s .selectable) 0) 0 (askedVolume a)
 
--- "The answer to 0x05 is a ring notice"; "a stop by write uses its own" nonce. "A ring replaces the old one with no stop notice", and
--- keeps the nonce of its write beside it
-unfoldable pub rung : TagUnit → ℕ → ℕ → ℕ → Judgement
-rung u mask volume left =
-    cond (eqb mask 0)
-    (accepts (silenced u) (stopNotice (keyInForce u) (lastNonce u) byRequest))
-    (accepts (withSound (Sound.Ringing mask volume left) (lastNonce u) u)
-    (ringNotice (keyInForce u) (lastNonce u) started mask left))
+-- "unreachable parts are dropped from the mask"
+abbrev pub reached : ℕ → ℕ → ℕ
+reached mask reach = bitAnd mask reach
 
-unfoldable pub ring : TagUnit → Request → Judgement
-ring u q =
-    unless (skips (u .protection) || tagged (ringKey (keyInForce u)) (lastNonce u) q) notAuthenticated
-    (unless (ringLegal (u .settings) (q .additional)) invalidValue
-    (rung u (ringMask (u .settings) (q .additional)) (heldVolume (u .settings) (q .additional)) (askedTimeout (q .additional))))
+-- "every requested part is out of reach", "every sounding part is unreachable"
+abbrev pub outOfReach : ℕ → ℕ → Bool
+outOfReach mask reach = eqb (reached mask reach) 0
 
--- 0x06: "mask and tenths left; zeros when silent"
+-- "A stop fails when every sounding part is unreachable, and otherwise silences all; while silent it succeeds as before"
+abbrev pub stopDecision : Sound → ℕ → Decision
+stopDecision Sound.Silent reach = Decision.Stopped
+stopDecision (Sound.Ringing mask volume left) reach = cond (outOfReach mask reach) Decision.Failed Decision.Stopped
+
+-- "The ring decision now answers started, or failed (status 0x01) when every requested part is out of reach": on what sounds, with the mask
+-- that is asked for, where 0 asks for a stop, and the mask of reachable parts
+unfoldable pub ringDecision : Sound → ℕ → ℕ → Decision
+ringDecision sound mask reach =
+    cond (eqb mask 0) (stopDecision sound reach)
+    (cond (outOfReach mask reach) Decision.Failed (Decision.Started (reached mask reach)))
+
+-- "mask and tenths left; zeros when silent"
 abbrev pub soundState : Sound → List ℕ
 soundState Sound.Silent = 0 ∷ bigEndian 2 0
 soundState (Sound.Ringing mask volume left) = mask ∷ bigEndian 2 left
 
+-- "its notice carries the old mask and tenths left", signed with the nonce of its write
+abbrev pub failNotice : TagUnit → List ℕ
+failNotice u = signed (ringKey (keyInForce u)) (lastNonce u) ringId (failed ∷ soundState (u .sound))
+
+-- "The answer to 0x05 is a ring notice"; "a stop by write uses its own" nonce. "A ring replaces the old one with no stop notice", and
+-- keeps the nonce of its write beside it. "A failed start or stop changes neither an old ring nor its timer"
+unfoldable pub rung : Decision → TagUnit → ℕ → ℕ → Judgement
+rung (Decision.Started mask) u volume left =
+    accepts (withSound (Sound.Ringing mask volume left) (lastNonce u) u)
+    (ringNotice (keyInForce u) (lastNonce u) started mask left)
+rung Decision.Stopped u volume left = accepts (silenced u) (stopNotice (keyInForce u) (lastNonce u) byRequest)
+rung Decision.Failed u volume left = accepts u (failNotice u)
+
+-- the values are judged on the mask that is asked for, before the reach
+unfoldable pub ring : TagUnit → Request → ℕ → Judgement
+ring u q reach =
+    unless (skips (u .protection) || tagged (ringKey (keyInForce u)) (lastNonce u) q) notAuthenticated
+    (unless (ringLegal (u .settings) (q .additional)) invalidValue
+    (rung (ringDecision (u .sound) (ringMask (u .settings) (q .additional)) reach) u
+    (heldVolume (u .settings) (q .additional)) (askedTimeout (q .additional))))
+
+-- 0x06 data
 unfoldable pub readSound : TagUnit → Request → Judgement
 readSound u q =
     unless (tagged (ringKey (keyInForce u)) (lastNonce u) q) notAuthenticated

@@ -8,7 +8,9 @@ ghost use Rattle.wire.specs.Shape.{request};
 ghost use Rattle.wire.specs.Signing.{ringKey, ringId};
 ghost use Rattle.authentication.specs.Judgement.{tagged as isTagged, lastNonce};
 ghost use Rattle.authentication.specs.Promises.{Ready, Judges, Signs, signingBytes};
-ghost use Rattle.ringing.specs.Ringing.{skips as isSkipped, allOfNone, askedTimeout, ringMask, ringLegal, heldVolume, rung as rungBy, ring as ringBy, soundState, readSound, ringData};
+ghost use mathlib.Core.List.{_∷_};
+ghost use Rattle.wire.specs.Signing.{failed};
+ghost use Rattle.ringing.specs.Ringing.{skips as isSkipped, allOfNone, askedTimeout, ringMask, ringLegal, heldVolume, stopDecision, ringDecision, rung as rungBy, ring as ringBy, soundState, readSound, ringData};
 use authentication::SigningKey;
 use authentication::Verdict;
 use authentication::answering;
@@ -30,6 +32,13 @@ use wire::signing;
 const WHOLE_MASK: u8 = 0xFF;
 
 const STATE_SIZE: usize = 3;
+
+// What a legal 0x05 comes to: these parts ring, nothing sounds any more, or what sounds is left as it is.
+pub enum Decision {
+    Started(u8),
+    Stopped,
+    Failed,
+}
 
 // Whether a ring needs no tag: under protection with the skip flag.
 fn skips(protection: Protection) -> bool
@@ -77,7 +86,7 @@ fn ring_legal(s: Settings, ring: u8, additional: &[u8]) -> bool
     requires { ⌜ ((length (now additional) ≡ ringData) × (s .components ≤ mostComponents)) × (ring ≡ ringMask s (now additional)) ⌝ }
     ensures { λ r. ⌜ r ≡ ringLegal s (now (additional .entry)) ⌝ }
 {
-    if !mask::inside(ring, s.components) {
+    if !mask::inside(ring as u32, s.components) {
         return false;
     }
     if all_of_none(s, ring, additional) {
@@ -107,24 +116,76 @@ fn held_volume(s: Settings, additional: &[u8]) -> u8
     additional[3]
 }
 
-// Rings or stops; the answer is a notice, signed with the write's own nonce.
-fn rung(u: TagUnit, key: SigningKey, ring: u8, volume: u8, left: u16) -> Verdict
-    requires { ⌜ Signs (ringKey (u .identity .bytes)) key ⌝ }
-    ensures { λ r. ⌜ Judges u ringId (rungBy u ring volume left) r ⌝ }
+// A stop: fails where no part that sounds can be reached.
+fn stop_decision(sound: Sound, reach: u8) -> Decision
+    ensures { λ r. ⌜ r ≡ stopDecision sound reach ⌝ }
+{
+    match sound {
+        Sound::Silent => Decision::Stopped,
+        Sound::Ringing {
+            mask,
+            volume: _,
+            left: _,
+        } => {
+            if mask & reach == 0 {
+                return Decision::Failed;
+            }
+            Decision::Stopped
+        }
+    }
+}
+
+// A ring, or with mask 0 a stop: parts out of reach are left out, and with none in reach it fails.
+fn ring_decision(sound: Sound, ring: u8, reach: u8) -> Decision
+    ensures { λ r. ⌜ r ≡ ringDecision sound ring reach ⌝ }
 {
     if ring == 0 {
-        let stopped = answer::notice_data(answer::BY_REQUEST, 0, 0);
-        return answering::granted(change::silenced(u), key, &stopped);
+        return stop_decision(sound, reach);
     }
-    let n = u.nonces;
-    let nonce = n.newest;
-    let sound = Sound::Ringing {
-        mask: ring,
-        volume,
-        left,
-    };
-    let started = answer::notice_data(answer::STARTED, ring, left);
-    answering::granted(change::with_sound(u, sound, nonce), key, &started)
+    let parts = ring & reach;
+    if parts == 0 {
+        return Decision::Failed;
+    }
+    Decision::Started(parts)
+}
+
+// The data of a notice of failure: what sounds on.
+fn fail_data(sound: Sound) -> [u8; answer::NOTICE_SIZE]
+    ensures { λ r. ⌜ r ≡ failed ∷ soundState sound ⌝ }
+{
+    match sound {
+        Sound::Silent => answer::notice_data(answer::FAILED, 0, 0),
+        Sound::Ringing {
+            mask,
+            volume: _,
+            left,
+        } => answer::notice_data(answer::FAILED, mask, left),
+    }
+}
+
+// Rings, stops, or fails and changes nothing; the answer is a notice, signed with the write's own nonce.
+fn rung(u: TagUnit, key: SigningKey, decision: Decision, volume: u8, left: u16) -> Verdict
+    requires { ⌜ Signs (ringKey (u .identity .bytes)) key ⌝ }
+    ensures { λ r. ⌜ Judges u ringId (rungBy decision u volume left) r ⌝ }
+{
+    match decision {
+        Decision::Started(mask) => {
+            let n = u.nonces;
+            let nonce = n.newest;
+            let sound = Sound::Ringing { mask, volume, left };
+            let started = answer::notice_data(answer::STARTED, mask, left);
+            answering::granted(change::with_sound(u, sound, nonce), key, &started)
+        }
+        Decision::Stopped => {
+            let stopped = answer::notice_data(answer::BY_REQUEST, 0, 0);
+            answering::granted(change::silenced(u), key, &stopped)
+        }
+        Decision::Failed => {
+            let sound = u.sound;
+            let failure = fail_data(sound);
+            answering::granted(u, key, &failure)
+        }
+    }
 }
 
 // Whether a ring is let through: by the skip flag, or by its tag.
@@ -141,10 +202,10 @@ fn let_through(u: TagUnit, key: SigningKey, h: Head, additional: &[u8]) -> bool
     identity::tagged(key, nonce, h, additional)
 }
 
-// 0x05: rings, or stops the ring.
-pub fn ring(u: TagUnit, h: Head, additional: &[u8]) -> Verdict
+// 0x05: rings, or stops the ring, where parts can be reached.
+pub fn ring(u: TagUnit, h: Head, additional: &[u8], reach: u8) -> Verdict
     requires { ⌜ Ready u (h .size) (now additional) × ((length (now additional) ≡ ringData) × (h .id ≡ ringId)) ⌝ }
-    ensures { λ r. ⌜ Judges u (h .id) (ringBy u (request h (now (additional .entry)))) r ⌝ }
+    ensures { λ r. ⌜ Judges u (h .id) (ringBy u (request h (now (additional .entry))) reach) r ⌝ }
 {
     let key = identity::derived_key(u, signing::RING);
     if !let_through(u, key, h, additional) {
@@ -157,7 +218,9 @@ pub fn ring(u: TagUnit, h: Head, additional: &[u8]) -> Verdict
     }
     let volume = held_volume(s, additional);
     let left = asked_timeout(additional);
-    rung(u, key, ring, volume, left)
+    let sound = u.sound;
+    let decision = ring_decision(sound, ring, reach);
+    rung(u, key, decision, volume, left)
 }
 
 // What 0x06 gives: mask and tenths left, zeros when silent.

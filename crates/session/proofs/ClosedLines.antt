@@ -34,8 +34,8 @@ use Rattle.lines.specs.Promises.{awaiting, expecting, lineOf}
 
 -- the line that the code told
 pub closes-told : (run : Run) (n : ℕ) (bytes : List ℕ) {what known : lines.Line} → what ≡ known → {at written : ℕ} {before out : List ℕ} {after : Run}
-    → ClosesLine (lineOf known (run .power) (run .components) (take (run .filled) (run .r)) n bytes) run at before after written out
-    → ClosesLine (lineOf what (run .power) (run .components) (take (run .filled) (run .r)) n bytes) run at before after written out
+    → ClosesLine (lineOf known (run .power) (run .components) (take (run .filled) (run .kept)) n bytes) run at before after written out
+    → ClosesLine (lineOf what (run .power) (run .components) (take (run .filled) (run .kept)) n bytes) run at before after written out
 closes-told run n bytes e p = rw e p
 
 module _ (n : ℕ) (u : TagUnit) {at written : ℕ} {before : List ℕ} {run : Run} where
@@ -75,7 +75,7 @@ keeping p c bytes n run =
       number = run .number;
       power = p;
       components = c;
-      r = bytes;
+      kept = bytes;
       filled = n;
       unit = run .unit;
     }
@@ -83,18 +83,18 @@ keeping p c bytes n run =
 -- the run moved on to another line
 pub closes-moved : (a : Awaited) (awaited : code.Awaited) (base : Run) {after : Run} {at written : ℕ} {before : List ℕ}
     → after ≡ moved (next.Inside awaited) (base .unit) base → base .ended ≡ false → base .number ≤ mostLines → base .filled ≤ 128
-    → awaiting awaited (base .power) (base .components) (take (base .filled) (base .r)) ≡ a → written ≡ at
+    → awaiting awaited (base .power) (base .components) (take (base .filled) (base .kept)) ≡ a → written ≡ at
     → Closes (closed (follows a) (base .number) (base .unit)) at before after written before
 closes-moved a awaited base {after} {at} {written} {before} is going few fits means w =
     closes-follow (base .number) (base .unit) a
     (rw (is, going, means, add-one))
-    (rw is (record { numbered = omega arith; withinR = fits }))
+    (rw is (record { numbered = omega arith; withinKept = fits }))
     w
 
 -- a line within the limits is judged by what is expected
 module _ (run : Run) (line : List ℕ) where
   pub judged-is : {next : Next} → run .next ≡ next → length line ≤ longestLine → run .number ≤ mostLines
-      → taken (expecting next (run .power) (run .components) (take (run .filled) (run .r))) line ≡ judged (expectedOf run) (run .number) line
+      → taken (expecting next (run .power) (run .components) (take (run .filled) (run .kept))) line ≡ judged (expectedOf run) (run .number) line
   unfolding judged
   judged-is e short few = rw (le-leb (length line) longestLine short, le-leb (run .number) mostLines few, e)
 
@@ -109,7 +109,7 @@ unfolding closed
 closes-event ready is p =
     record {
       stateIs = rw (is, ready .going, p .unitIs, add-one);
-      bounded = rw is (record { numbered = omega (arith, ready .counted); withinR = ready .bounded .withinR });
+      bounded = rw is (record { numbered = omega (arith, ready .counted); withinKept = ready .bounded .withinKept });
       few = p .few;
       puts = p .puts;
     }

@@ -54,7 +54,7 @@ moved n u run =
       number = run .number + 1;
       power = run .power;
       components = run .components;
-      r = run .r;
+      kept = run .kept;
       filled = run .filled;
       unit = u;
     }

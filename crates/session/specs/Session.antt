@@ -18,7 +18,7 @@ use Rattle.session.specs.Replay.{longestLine, mostLines}
 use Rattle.session.specs.Feeding.{State, reading, ended, byte, fed, finish, first}
 
 abbrev pub expectedOf : Run → Expected
-expectedOf run = expecting (run .next) (run .power) (run .components) (take (run .filled) (run .r))
+expectedOf run = expecting (run .next) (run .power) (run .components) (take (run .filled) (run .kept))
 
 -- a run with a part of a line
 abbrev pub stateWith : Run → List ℕ → State
@@ -30,7 +30,7 @@ stateOf s = stateWith (s .run) (take (s .count) (s .line))
 -- Counts within their rooms. Any record may be handed in; those of the code's own making are bounded
 pub record BoundedRun (run : Run) : Type 0 where
   pub numbered : run .number ≤ mostLines + 1
-  pub withinR : run .filled ≤ 128
+  pub withinKept : run .filled ≤ 128
 
 pub record Bounded (s : Session) : Type 0 where
   pub boundedRun : BoundedRun (s .run)

@@ -50,7 +50,7 @@ fn act(
     at: usize,
 ) -> Progress
     requires { ⌜ (Ready run at (now out)) × (count ≤ 128) ⌝ }
-    ensures { λ r. ⌜ ClosesLine (lineOf what (run .power) (run .components) (take (run .filled) (run .r)) number (take count bytes)) run at (now (out .entry)) (r .run) (r .written) (now (out .exit)) ⌝ }
+    ensures { λ r. ⌜ ClosesLine (lineOf what (run .power) (run .components) (take (run .filled) (run .kept)) number (take count bytes)) run at (now (out .entry)) (r .run) (r .written) (now (out .exit)) ⌝ }
 {
     match what {
         Line::Power(p) => {
@@ -65,11 +65,11 @@ fn act(
         }
         Line::Volume => create(run, number, out, at),
         Line::Follows(awaited) => follow(run, awaited, at),
-        Line::R => {
+        Line::Keeps(awaited) => {
             let mut read = run;
-            read.r = bytes;
+            read.kept = bytes;
             read.filled = count;
-            follow(read, Awaited::Id, at)
+            follow(read, awaited, at)
         }
         Line::Brings(event) => bring(run, event, number, &bytes[..count], out, at),
         Line::Breaks => breaks(run, out, at),
@@ -81,14 +81,14 @@ fn advance(run: Run, next: Next, unit: TagUnit) -> Run
     requires { ⌜ run .number ≤ replay.mostLines ⌝ }
     ensures { λ r. ⌜ r ≡ moved next unit run ⌝ }
 {
-    let r = run.r;
+    let kept = run.kept;
     Run {
         ended: run.ended,
         next,
         number: run.number + 1,
         power: run.power,
         components: run.components,
-        r,
+        kept,
         filled: run.filled,
         unit,
     }
@@ -136,12 +136,12 @@ fn create(run: Run, selectable: u32, out: &mut [u8], at: usize) -> Progress
 // A whole event.
 fn bring(run: Run, event: Event, number: u32, bytes: &[u8], out: &mut [u8], at: usize) -> Progress
     requires { ⌜ Ready run at (now out) ⌝ }
-    ensures { λ r. ⌜ ClosesLine (brings (eventOf event number (take (run .filled) (run .r)) (now (bytes .entry)))) run at (now (out .entry)) (r .run) (r .written) (now (out .exit)) ⌝ }
+    ensures { λ r. ⌜ ClosesLine (brings (eventOf event number (take (run .filled) (run .kept)) (now (bytes .entry)))) run at (now (out .entry)) (r .run) (r .written) (now (out .exit)) ⌝ }
 {
     let u = run.unit;
-    let r = run.r;
+    let kept = run.kept;
     let filled = run.filled;
-    let done = events::perform(u, event, number, &r[..filled], bytes, out, at);
+    let done = events::perform(u, event, number, &kept[..filled], bytes, out, at);
     let unit = done.unit;
     Progress {
         run: advance(run, Next::Event, unit),

@@ -22,8 +22,8 @@ pub struct Run {
     pub number: u32,
     pub power: i32,
     pub components: u32,
-    // The bytes of an identifier's r, the first `filled` of them.
-    pub r: [u8; 128],
+    // The bytes of an event's first line, where a second follows, the first `filled` of them.
+    pub kept: [u8; 128],
     pub filled: usize,
     pub unit: TagUnit,
 }

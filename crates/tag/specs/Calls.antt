@@ -19,9 +19,10 @@ newUnit power components selectable =
     let s : Settings = record { power = power; components = components; selectable = selectable } in
     cond (settingsLegal s) (giving [] (fresh s)) (refusing 1 noUnit)
 
--- what a phone writes
+-- what a phone writes, and the mask of reachable parts that the host lends with it
 pub record Written : Type 0 where
   pub bytes : List ℕ
+  pub reach : ℕ
 
 -- A call on a unit, with its arguments. Time is apart: see `Act`
 pub data Call : Type 0 where
@@ -38,7 +39,7 @@ pub data Call : Type 0 where
 -- what it does on a unit that passed the guards
 unfoldable pub own : Call → TagUnit → Outcome
 own (read nonce) u = issuing nonce u
-own (write w) u = written u (w .bytes)
+own (write w) u = written u (w .bytes) (w .reach)
 own button u = pressed (u .sound) u
 own (pairing on) u = giving [] (withPairing on u)
 own (battery level) u = charged level u

@@ -77,15 +77,16 @@ pub fn read(u: TagUnit, lent: &[u8], answer: &mut [u8]) -> Step
     end::refuse(u, Refusal::NotWellFormed)
 }
 
-// Write: a request of the phone's. Refusals: 6, 2, and then, with the nonce spent, 0x81 for its shape, 0x80, 0x81 for its values, 0x82.
-pub fn write(u: TagUnit, w: &[u8], answer: &mut [u8]) -> Step
-    ensures { λ r. ⌜ Answers (call (of.write (record { bytes = now (w .entry) })) (length (now (answer .entry))) u) (r .unit) (r .reply) (now (answer .entry)) (now (answer .exit)) ⌝ }
+// Write: a request of the phone's, with the mask of the parts that can be reached now. Refusals: 6, 2, 1 for a mask with a bit outside the ringable
+// mask, and then, with the nonce spent, 0x81 for its shape, 0x80, 0x81 for its values, 0x82.
+pub fn write(u: TagUnit, w: &[u8], reach: u32, answer: &mut [u8]) -> Step
+    ensures { λ r. ⌜ Answers (call (of.write (record { bytes = now (w .entry); reach = reach })) (length (now (answer .entry))) u) (r .unit) (r .reply) (now (answer .entry)) (now (answer .exit)) ⌝ }
 {
     if answer.len() < ANSWER_ROOM {
         return end::refuse(u, Refusal::NoRoom);
     }
     if well_formed::well_formed(u) {
-        return requests::write(u, w, answer);
+        return requests::write(u, w, reach, answer);
     }
     end::refuse(u, Refusal::NotWellFormed)
 }

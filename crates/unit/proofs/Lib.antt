@@ -3,3 +3,4 @@ pub mod Lines
 pub mod Adding
 pub mod Kept
 pub mod Ends
+pub mod Masks

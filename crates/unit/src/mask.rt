@@ -18,9 +18,9 @@ pub fn ringable_mask(components: u8) -> u8
 }
 
 // Whether every bit of a mask is one of the ringable mask's.
-pub fn inside(mask: u8, components: u8) -> bool
+pub fn inside(mask: u32, components: u8) -> bool
     requires { ⌜ components ≤ mostComponents ⌝ }
     ensures { λ r. ⌜ r ≡ isInside mask components ⌝ }
 {
-    mask & ringable_mask(components) == mask
+    mask & (ringable_mask(components) as u32) == mask
 }

@@ -121,7 +121,7 @@ fn sound_legal(sound: Sound, ring_nonce: [u8; NONCE_SIZE], s: Settings, keyed: b
             if mask == 0 {
                 return false;
             }
-            if !mask::inside(mask, s.components) {
+            if !mask::inside(mask as u32, s.components) {
                 return false;
             }
             if !volume_legal(volume, s.selectable) {

@@ -53,6 +53,10 @@ ringId = 0x05
 abbrev pub started : ℕ
 started = 0
 
+-- "failed (status 0x01)"
+abbrev pub failed : ℕ
+failed = 1
+
 abbrev pub timedOut : ℕ
 timedOut = 2
 

@@ -16,6 +16,8 @@ pub const RING_ID: u8 = 0x05;
 
 pub const STARTED: u8 = 0;
 
+pub const FAILED: u8 = 1;
+
 pub const TIMED_OUT: u8 = 2;
 
 pub const BY_BUTTON: u8 = 3;

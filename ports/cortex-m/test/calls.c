@@ -182,6 +182,8 @@ static void draw_block(struct argument *a) { sized(a, TAG_BLOCK_SIZE); }
 static void draw_digest(struct argument *a) { sized(a, TAG_DIGEST_SIZE); }
 static void draw_power(struct argument *a) { a->number = one_in(20) ? chance() : below(124) - 102; }
 static void draw_small(struct argument *a) { a->number = one_in(20) ? chance() : below(5); }
+/* Mostly every part that the unit has. */
+static void draw_reach(struct argument *a) { a->number = one_in(20) ? chance() : one_in(3) ? below(8) : (1u << (unit[TAG_SETTINGS_COMPONENTS_AT] & 3)) - 1; }
 static void draw_switch(struct argument *a) { a->number = one_in(20) ? chance() : below(2); }
 
 static void draw_tenths(struct argument *a) {
@@ -191,7 +193,7 @@ static void draw_tenths(struct argument *a) {
 
 static const struct kind record = {draw_record, 1}, lent_record = {draw_record, 0}, answer = {draw_answer, 1}, digest = {draw_digest, 1}, answer_block = {draw_block, 1}, nonce = {draw_nonce, 0},
                          request = {draw_request, 0}, account_key = {draw_account_key, 0}, identifier = {draw_identifier, 0}, frame_text = {draw_frame, 0}, parts = {draw_parts, 1}, message = {draw_message, 0},
-                         block = {draw_block, 0}, power = {draw_power, 0}, small = {draw_small, 0}, on_or_off = {draw_switch, 0}, tenths = {draw_tenths, 0};
+                         block = {draw_block, 0}, power = {draw_power, 0}, small = {draw_small, 0}, on_or_off = {draw_switch, 0}, reach = {draw_reach, 0}, tenths = {draw_tenths, 0};
 
 /* ---- the exports: name, how often (of the sum), its arguments in C, and the kind of each. One more export is one more line. */
 #define S(i) a[i].at, a[i].bytes
@@ -200,7 +202,7 @@ static const struct kind record = {draw_record, 1}, lent_record = {draw_record, 
 #define EXPORTS(E)                                                                        \
     E(tag_new, 1, (S(0), I(1), U(2), U(3)), &record, &power, &small, &on_or_off)          \
     E(tag_read, 80, (S(0), S(1), S(2)), &record, &nonce, &answer)                         \
-    E(tag_write, 10, (S(0), S(1), S(2)), &record, &request, &answer)                      \
+    E(tag_write, 10, (S(0), S(1), U(2), S(3)), &record, &request, &reach, &answer)        \
     E(tag_button, 20, (S(0), S(1)), &record, &answer)                                     \
     E(tag_elapsed, 20, (S(0), U(1), S(2)), &record, &tenths, &answer)                     \
     E(tag_sleep, 20, (S(0)), &lent_record)                                                \

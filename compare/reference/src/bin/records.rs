@@ -7,7 +7,7 @@ use reference::boundary::{run, Call, ENDED_BASE, REFUSAL_BASE};
 use reference::damage::{self, Sample};
 use reference::primitives::sha256;
 use reference::record::encode;
-use reference::tag::{request_tag, Sound, Unit, ROOM, SLOTS};
+use reference::tag::{request_tag, ringable, Sound, Unit, ROOM, SLOTS};
 use std::collections::BTreeSet;
 
 struct Table {
@@ -25,7 +25,7 @@ fn arguments(call: &Call) -> String {
     match call {
         Call::New(..) => unreachable!(),
         Call::Read(nonce) => format!("nonce={}\n", hex(nonce)),
-        Call::Write(data) => format!("data={}\n", hex(data)),
+        Call::Write(data, reach) => format!("data={}\nreach={reach:02x}\n", hex(data)),
         Call::Elapsed(tenths) => format!("tenths={tenths}\n"),
         Call::Pairing(on) => format!("on={on}\n"),
         Call::Battery(level) => format!("level={level}\n"),
@@ -57,11 +57,19 @@ fn first_eight(parts: &[&[u8]]) -> [u8; 8] {
     sha256(&parts.concat())[..8].try_into().unwrap()
 }
 
-/// A write with a right tag for the unit's last nonce.
+/// A write with a right tag for the unit's last nonce, and everything in reach.
 fn signed(unit: &Unit, key: &[u8], id: u8, data: &[u8]) -> Call {
     let length = 8 + data.len() as u8;
     let tag = request_tag(key, &unit.nonces[0], id, length, data);
-    Call::Write([&[id, length][..], &tag, data].concat())
+    Call::Write([&[id, length][..], &tag, data].concat(), ringable(unit.components))
+}
+
+/// The same write with another reach.
+fn reaching(call: Call, reach: u32) -> Call {
+    match call {
+        Call::Write(data, _) => Call::Write(data, reach),
+        other => other,
+    }
 }
 
 /// The right write of each ID for a unit that holds what it needs.
@@ -120,8 +128,11 @@ fn bad_calls(unit: &Unit) -> Vec<(&'static str, Call, &'static str)> {
         ("nonce-of-7-bytes", Call::Read(vec![0x77; 7]), "03"),
         ("nonce-issued-last", Call::Read(unit.nonces[0].to_vec()), "03"),
         ("nonce-issued-sixteenth-back", Call::Read(unit.nonces[15].to_vec()), "03"),
-        ("empty-write", Call::Write(vec![]), "81"),
-        ("tag-of-zeros", Call::Write([&[0x01, 0x08][..], &[0; 8]].concat()), "80"),
+        ("empty-write", Call::Write(vec![], 7), "81"),
+        ("tag-of-zeros", Call::Write([&[0x01, 0x08][..], &[0; 8]].concat(), 7), "80"),
+        ("reach-outside", reaching(right_write(unit, 0x06), 0x08), "01"),
+        ("reach-all-bits", reaching(right_write(unit, 0x05), 0xff), "01"),
+        ("reach-outside-with-an-empty-write", Call::Write(vec![], 0x80), "01"),
         ("level-4", Call::Battery(4), "01"),
         ("level-256", Call::Battery(256), "01"),
         ("key-of-15-bytes", Call::AccountKey(vec![0xa1; 15]), "04"),
@@ -170,6 +181,15 @@ fn write_rows(table: &mut Table) {
     let mut spent = unit.clone();
     spent.live = false;
     table.row("nonce-is-spent", &encode(&spent), &right_write(&spent, 0x06), ROOM, Some("80"));
+    table.row("nonce-is-spent-and-reach-outside", &encode(&spent), &reaching(right_write(&spent, 0x06), 0x10), ROOM, Some("01"));
+    table.row("nothing-in-reach", &encode(&unit), &reaching(right_write(&unit, 0x05), 0), ROOM, Some("ok"));
+    for (components, inside, outside) in [(0, 0x00, 0x01), (1, 0x01, 0x02), (2, 0x03, 0x04), (3, 0x07, 0x08)] {
+        let mut parts = damage::quiet();
+        parts.components = components;
+        let write = right_write(&parts, 0x06);
+        table.row(&format!("reach-{inside:02x}-with-{components}"), &encode(&parts), &reaching(write.clone(), inside), ROOM, Some("ok"));
+        table.row(&format!("reach-{outside:02x}-with-{components}"), &encode(&parts), &reaching(write, outside), ROOM, Some("01"));
+    }
     let mut no_consent = unit.clone();
     no_consent.consent = 0;
     no_consent.pairing = false;

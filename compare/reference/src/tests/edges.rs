@@ -154,7 +154,7 @@ fn answer_room() {
     let mut answer = [0xa5; 41];
     assert_eq!(write(&mut unit, &data).is_ok(), true);
     unit = before.clone();
-    assert_eq!(tag::write(&mut unit, &data, &mut answer), Err(6));
+    assert_eq!(tag::write(&mut unit, &data, 1, &mut answer), Err(6));
     assert_eq!(read(&mut unit, &[2; 8], &mut answer), Err(6));
     assert_eq!(button(&mut unit, &mut answer), Err(6));
     assert_eq!(elapsed(&mut unit, 1, &mut answer), Err(6));
@@ -162,10 +162,10 @@ fn answer_room() {
     assert_eq!(answer, [0xa5; 41]);
     assert_eq!(unit, before);
     assert!(unit.live);
-    assert_eq!(tag::write(&mut unit, &data, &mut [0; 42]), Ok(11));
+    assert_eq!(tag::write(&mut unit, &data, 1, &mut [0; 42]), Ok(11));
     // More room serves too, and the rest is kept.
     let mut unit = before;
     let mut long = [0xa5; 100];
-    assert_eq!(tag::write(&mut unit, &data, &mut long), Ok(11));
+    assert_eq!(tag::write(&mut unit, &data, 1, &mut long), Ok(11));
     assert_eq!(long[11..], [0xa5; 89]);
 }

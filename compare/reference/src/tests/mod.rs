@@ -2,6 +2,7 @@ mod edges;
 mod errors;
 mod frames;
 mod record;
+mod reach;
 mod refusals;
 mod replays;
 mod time;
@@ -84,10 +85,15 @@ pub fn exchange(
     write(unit, &request(key, &nonce, id, additional))
 }
 
-/// A write with 42 lent bytes; gives the bytes written. Checks that the other lent bytes are kept.
+/// A write with 42 lent bytes and everything in reach; gives the bytes written. Checks that the other lent bytes are kept.
 pub fn write(unit: &mut Unit, data: &[u8]) -> Result<Vec<u8>, u8> {
+    write_in_reach(unit, data, tag::ringable(unit.components))
+}
+
+/// The same with these parts in reach.
+pub fn write_in_reach(unit: &mut Unit, data: &[u8], reach: u32) -> Result<Vec<u8>, u8> {
     let mut answer = [0xa5u8; 42];
-    let result = tag::write(unit, data, &mut answer);
+    let result = tag::write(unit, data, reach, &mut answer);
     assert!(unit.well_formed());
     assert!(!unit.live);
     match result {

@@ -29,8 +29,8 @@ fn broken(change: impl Fn(&mut Unit), of: &Unit) {
     let before = unit.clone();
     let mut answer = [0xa5; 42];
     assert_eq!(tag::read(&mut unit, &[], &mut answer), Err(2));
-    assert_eq!(tag::write(&mut unit, &[], &mut answer), Err(2));
-    assert_eq!(tag::write(&mut unit, &[0x01, 8, 0, 0, 0, 0, 0, 0, 0, 0], &mut answer), Err(2));
+    assert_eq!(tag::write(&mut unit, &[], 0xff, &mut answer), Err(2));
+    assert_eq!(tag::write(&mut unit, &[0x01, 8, 0, 0, 0, 0, 0, 0, 0, 0], 0, &mut answer), Err(2));
     assert_eq!(tag::button(&mut unit, &mut answer), Err(2));
     assert_eq!(tag::elapsed(&mut unit, 0, &mut answer), Err(2));
     assert_eq!(tag::elapsed(&mut unit, u32::MAX, &mut answer), Err(2));
@@ -45,7 +45,7 @@ fn broken(change: impl Fn(&mut Unit), of: &Unit) {
     assert_eq!(unit, before);
     // Room comes before the record.
     assert_eq!(tag::read(&mut unit, &[], &mut answer[..41]), Err(6));
-    assert_eq!(tag::write(&mut unit, &[], &mut []), Err(6));
+    assert_eq!(tag::write(&mut unit, &[], 0xff, &mut []), Err(6));
     assert_eq!(tag::button(&mut unit, &mut answer[..41]), Err(6));
     assert_eq!(tag::elapsed(&mut unit, 1, &mut answer[..41]), Err(6));
     assert_eq!(tag::frame(&mut unit, &mut answer[..41]), Err(6));

@@ -12,7 +12,7 @@ const SETTINGS: &str = "power=-20\ncomponents=3\nvolume=1\n";
 #[test]
 fn worked_example() {
     gives(
-        "power=-20\ncomponents=3\nvolume=1\nevent=read\nnonce=0102030405060708\nevent=write\ndata=0908\nevent=elapsed\ntenths=25\n",
+        "power=-20\ncomponents=3\nvolume=1\nevent=read\nnonce=0102030405060708\nevent=write\ndata=0908\nreach=07\nevent=elapsed\ntenths=25\n",
         "answer=read\nbytes=010102030405060708\nanswer=refused\ncode=81\nanswer=elapsed\nnotes=0\nclock=2\n",
     );
 }
@@ -63,7 +63,13 @@ fn hex() {
         gives(&format!("{SETTINGS}event=read\nnonce={nonce}\n"), "answer=malformed\nline=5\n");
     }
     gives(&format!("{SETTINGS}event=read\nnonce=\n"), "answer=refused\ncode=03\n");
-    gives(&format!("{SETTINGS}event=write\ndata=\n"), "answer=refused\ncode=81\n");
+    gives(&format!("{SETTINGS}event=write\ndata=\nreach=07\n"), "answer=refused\ncode=81\n");
+    gives(&format!("{SETTINGS}event=write\ndata=\nreach=08\n"), "answer=refused\ncode=01\n");
+    for reach in ["", "0", "7", "007", "0007", "0A", "0g", " 07", "07 ", "0x07"] {
+        gives(&format!("{SETTINGS}event=write\ndata=\nreach={reach}\n"), "answer=malformed\nline=6\n");
+    }
+    gives(&format!("{SETTINGS}event=write\ndata=\n"), "answer=malformed\nline=6\n");
+    gives(&format!("{SETTINGS}event=write\nreach=07\ndata=\n"), "answer=malformed\nline=5\n");
     gives(&format!("{SETTINGS}event=key\nbytes=\n"), "answer=refused\ncode=04\n");
     let long = "0".repeat(250);
     gives(&format!("{SETTINGS}event=read\nnonce={long}\n"), "answer=refused\ncode=03\n");

@@ -96,7 +96,7 @@ same-length c = search needs
 returns : tie.Need-returns
 unfolding performed successText
 returns c =
-    let known = c .before .before .before .before .before .before .before .before .before .before .before .before .before .args in
+    let known = c .before .before .before .before .before .before .before .before .before .before .before .before .before .before .args in
     rw (c .before .before .before .before .before .before .before .before .before .enum-told .given .1)
     (performs-answered (asks (tag.read (known .bytes .now))) (known .u) (ascii "answer=read\n") (omega arith) (λ o a. refl) (c .before .before .before .before .before .before .before .read .ensures) (omega arith) (c .before .before .answered .ensures))
 
@@ -106,9 +106,9 @@ same-length-2 c = search needs
 returns-2 : tie.Need-returns-2
 unfolding performed successText
 returns-2 c =
-    let known = c .before .before .before .before .before .before .before .before .before .before .before .before .before .args in
+    let known = c .before .before .before .before .before .before .before .before .before .before .before .before .before .before .args in
     rw (c .before .before .before .before .before .before .before .before .before .enum-told2 .given .1)
-    (performs-answered (asks (tag.write (record { bytes = known .bytes .now }))) (known .u) (ascii "answer=write\n") (omega arith) (λ o a. refl) (c .before .before .before .before .before .before .before .write .ensures) (omega arith) (c .before .before .answered2 .ensures))
+    (performs-answered (asks (tag.write (record { bytes = known .kept .now; reach = known .number }))) (known .u) (ascii "answer=write\n") (omega arith) (λ o a. refl) (c .before .before .before .before .before .before .before .write .ensures) (omega arith) (c .before .before .answered2 .ensures))
 
 same-length-3 : tie.Need-same-length-3
 same-length-3 c = search needs
@@ -116,7 +116,7 @@ same-length-3 c = search needs
 returns-3 : tie.Need-returns-3
 unfolding performed successText
 returns-3 c =
-    let known = c .before .before .before .before .before .before .before .before .before .before .before .before .before .args in
+    let known = c .before .before .before .before .before .before .before .before .before .before .before .before .before .before .args in
     rw (c .before .before .before .before .before .before .before .before .before .enum-told3 .given .1)
     (performs-answered (asks tag.button) (known .u) (ascii "answer=button\n") (omega arith) (λ o a. refl) (c .before .before .before .before .before .before .before .button .ensures) (omega arith) (c .before .before .answered3 .ensures))
 
@@ -126,7 +126,7 @@ same-length-4 c = search needs
 returns-4 : tie.Need-returns-4
 unfolding performed successText
 returns-4 c =
-    let known = c .before .before .before .before .before .before .before .before .before .before .before .before .before .args in
+    let known = c .before .before .before .before .before .before .before .before .before .before .before .before .before .before .args in
     rw (c .before .before .before .before .before .before .before .before .before .enum-told4 .given .1)
     (performs-answered (asks tag.frame) (known .u) (ascii "answer=frame\n") (omega arith) (λ o a. refl) (c .before .before .before .before .before .before .before .advertise .ensures) (omega arith) (c .before .before .answered4 .ensures))
 

@@ -17,7 +17,7 @@ finish-requires c κs =
     let write-at = c .before .before .before .before in
     let decode-at = write-at .before .before in
     let start = decode-at .before .before .before .before .before in
-    answers-whole (write (record { bytes = start .args .request .now })) (length (start .args .answer .now)) (start .args .bytes .now) (decode-at .decode .ensures) (write-at .write .ensures)
+    answers-whole (write (record { bytes = start .args .request .now; reach = start .args .reach })) (length (start .args .answer .now)) (start .args .bytes .now) (decode-at .decode .ensures) (write-at .write .ensures)
 
 same-length : tie.Need-same-length
 same-length c = search needs
@@ -31,7 +31,7 @@ returns c =
     let write-at = finish-at .before .before .before .before .before in
     let decode-at = write-at .before .before in
     let start = decode-at .before .before .before .before .before in
-    answers-exports (write (record { bytes = start .args .request .now })) (length (start .args .answer .now)) (start .args .bytes .now) (decode-at .decode .ensures) (write-at .write .ensures) (finish-at .finish .ensures)
+    answers-exports (write (record { bytes = start .args .request .now; reach = start .args .reach })) (length (start .args .answer .now)) (start .args .bytes .now) (decode-at .decode .ensures) (write-at .write .ensures) (finish-at .finish .ensures)
 
 pub tag-write-spec : {M : Type 1} → statement M
 tag-write-spec =

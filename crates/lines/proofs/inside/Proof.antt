@@ -53,14 +53,20 @@ octets-requires-2 c κs = search needs
 enum-told-6 : tie.Need-enum-told-6
 enum-told-6 c = search needs
 
+reach-requires : tie.Need-reach-requires
+reach-requires c κs = search needs
+
+enum-told-7 : tie.Need-enum-told-7
+enum-told-7 c = search needs
+
 slice-aggregate-number-3 : tie.Need-slice-aggregate-number-3
 slice-aggregate-number-3 c = search needs
 
 number-requires-3 : tie.Need-number-requires-3
 number-requires-3 c κs = search needs
 
-enum-told-7 : tie.Need-enum-told-7
-enum-told-7 c = search needs
+enum-told-8 : tie.Need-enum-told-8
+enum-told-8 c = search needs
 
 on-requires : tie.Need-on-requires
 on-requires c κs = search needs
@@ -68,8 +74,8 @@ on-requires c κs = search needs
 plain-requires-2 : tie.Need-plain-requires-2
 plain-requires-2 c κs = search needs
 
-enum-told-8 : tie.Need-enum-told-8
-enum-told-8 c = search needs
+enum-told-9 : tie.Need-enum-told-9
+enum-told-9 c = search needs
 
 slice-aggregate-number-4 : tie.Need-slice-aggregate-number-4
 slice-aggregate-number-4 c = search needs
@@ -77,8 +83,8 @@ slice-aggregate-number-4 c = search needs
 number-requires-4 : tie.Need-number-requires-4
 number-requires-4 c κs = search needs
 
-enum-told-9 : tie.Need-enum-told-9
-enum-told-9 c = search needs
+enum-told-10 : tie.Need-enum-told-10
+enum-told-10 c = search needs
 
 slice-aggregate-octets-3 : tie.Need-slice-aggregate-octets-3
 slice-aggregate-octets-3 c = search needs
@@ -86,8 +92,8 @@ slice-aggregate-octets-3 c = search needs
 octets-requires-3 : tie.Need-octets-requires-3
 octets-requires-3 c κs = search needs
 
-enum-told-10 : tie.Need-enum-told-10
-enum-told-10 c = search needs
+enum-told-11 : tie.Need-enum-told-11
+enum-told-11 c = search needs
 
 slice-aggregate-octets-4 : tie.Need-slice-aggregate-octets-4
 slice-aggregate-octets-4 c = search needs
@@ -95,8 +101,8 @@ slice-aggregate-octets-4 c = search needs
 octets-requires-4 : tie.Need-octets-requires-4
 octets-requires-4 c κs = search needs
 
-enum-told-11 : tie.Need-enum-told-11
-enum-told-11 c = search needs
+enum-told-12 : tie.Need-enum-told-12
+enum-told-12 c = search needs
 
 slice-aggregate-octets-5 : tie.Need-slice-aggregate-octets-5
 slice-aggregate-octets-5 c = search needs
@@ -130,36 +136,39 @@ unfolding held
 returns-5 c = says-of (c .before .before .before .before .before .before .before .before .before .args .line .now) (c .before .before .before .before .before .enum-told5 .given .1) (c .before .before .octets2 .ensures)
 
 returns-6 : tie.Need-returns-6
-unfolding held
-returns-6 c = says-of (c .before .before .before .before .before .before .args .line .now) (c .before .before .enum-told6 .given .1) (says-number (c .number3 .ensures))
+returns-6 c = says-of (c .before .before .before .before .before .args .line .now) (c .before .enum-told6 .given .1) (says-number (c .reach .ensures))
 
 returns-7 : tie.Need-returns-7
-returns-7 c = says-of (c .before .before .before .before .before .before .args .line .now) (c .before .before .enum-told7 .given .1) (says-plain (c .before .on .ensures) (c .plain2 .ensures))
+unfolding held
+returns-7 c = says-of (c .before .before .before .before .before .before .args .line .now) (c .before .before .enum-told7 .given .1) (says-number (c .number3 .ensures))
 
 returns-8 : tie.Need-returns-8
+returns-8 c = says-of (c .before .before .before .before .before .before .args .line .now) (c .before .before .enum-told8 .given .1) (says-plain (c .before .on .ensures) (c .plain2 .ensures))
+
+returns-9 : tie.Need-returns-9
 unfolding held
-returns-8 c = says-of (c .before .before .before .before .before .before .args .line .now) (c .before .before .enum-told8 .given .1) (says-number (c .number4 .ensures))
+returns-9 c = says-of (c .before .before .before .before .before .before .args .line .now) (c .before .before .enum-told9 .given .1) (says-number (c .number4 .ensures))
 
 same-length-3 : tie.Need-same-length-3
 same-length-3 c = search needs
 
-returns-9 : tie.Need-returns-9
+returns-10 : tie.Need-returns-10
 unfolding held
-returns-9 c = says-of (c .before .before .before .before .before .before .before .before .before .args .line .now) (c .before .before .before .before .before .enum-told9 .given .1) (c .before .before .octets3 .ensures)
+returns-10 c = says-of (c .before .before .before .before .before .before .before .before .before .args .line .now) (c .before .before .before .before .before .enum-told10 .given .1) (c .before .before .octets3 .ensures)
 
 same-length-4 : tie.Need-same-length-4
 same-length-4 c = search needs
 
-returns-10 : tie.Need-returns-10
+returns-11 : tie.Need-returns-11
 unfolding held
-returns-10 c = says-of (c .before .before .before .before .before .before .before .before .before .args .line .now) (c .before .before .before .before .before .enum-told10 .given .1) (c .before .before .octets4 .ensures)
+returns-11 c = says-of (c .before .before .before .before .before .before .before .before .before .args .line .now) (c .before .before .before .before .before .enum-told11 .given .1) (c .before .before .octets4 .ensures)
 
 same-length-5 : tie.Need-same-length-5
 same-length-5 c = search needs
 
-returns-11 : tie.Need-returns-11
+returns-12 : tie.Need-returns-12
 unfolding held
-returns-11 c = says-of (c .before .before .before .before .before .before .before .before .before .args .line .now) (c .before .before .before .before .before .enum-told11 .given .1) (c .before .before .octets5 .ensures)
+returns-12 c = says-of (c .before .before .before .before .before .before .before .before .before .args .line .now) (c .before .before .before .before .before .enum-told12 .given .1) (c .before .before .octets5 .ensures)
 
 pub inside-spec : {M : Type 1} → statement M
 inside-spec =
@@ -181,21 +190,23 @@ inside-spec =
     slice-aggregate-octets-2
     octets-requires-2
     enum-told-6
+    reach-requires
+    enum-told-7
     slice-aggregate-number-3
     number-requires-3
-    enum-told-7
+    enum-told-8
     on-requires
     plain-requires-2
-    enum-told-8
+    enum-told-9
     slice-aggregate-number-4
     number-requires-4
-    enum-told-9
+    enum-told-10
     slice-aggregate-octets-3
     octets-requires-3
-    enum-told-10
+    enum-told-11
     slice-aggregate-octets-4
     octets-requires-4
-    enum-told-11
+    enum-told-12
     slice-aggregate-octets-5
     octets-requires-5
     returns
@@ -208,9 +219,10 @@ inside-spec =
     returns-6
     returns-7
     returns-8
-    same-length-3
     returns-9
-    same-length-4
+    same-length-3
     returns-10
+    same-length-4
+    returns-11
     same-length-5
-    returns-11)
+    returns-12)

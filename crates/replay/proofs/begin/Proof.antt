@@ -13,7 +13,7 @@ no-unit-requires c κs = search needs
 
 returns : tie.Need-returns
 returns c =
-    (ap (λ (u : TagUnit). reading (inside power) 1 u _) (c .no-unit .ensures), record { boundedRun = record { numbered = omega arith; withinR = omega arith }; withinLine = omega arith })
+    (ap (λ (u : TagUnit). reading (inside power) 1 u _) (c .no-unit .ensures), record { boundedRun = record { numbered = omega arith; withinKept = omega arith }; withinLine = omega arith })
 
 pub begin-spec : {M : Type 1} → statement M
 begin-spec = tie.close (tie.spec no-unit-requires returns)

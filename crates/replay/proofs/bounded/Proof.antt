@@ -18,10 +18,10 @@ returns-3 c =
       boundedIf =
           λ e.
           record {
-            boundedRun = record { numbered = omega arith; withinR = leb-true (known .s .run .filled) 128 e };
+            boundedRun = record { numbered = omega arith; withinKept = leb-true (known .s .run .filled) 128 e };
             withinLine = omega arith;
           };
-      onlyIf = λ s. le-leb (known .s .run .filled) 128 (s .boundedRun .withinR);
+      onlyIf = λ s. le-leb (known .s .run .filled) 128 (s .boundedRun .withinKept);
     }
 
 pub bounded-spec : {M : Type 1} → statement M

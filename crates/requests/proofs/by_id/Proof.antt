@@ -86,7 +86,7 @@ returns-10 c =
     let known = c .before .before .before .args in
     let other = c .before .match .rest in
     denial (known .u) (known .h .id) (c .denied .ensures)
-    (chosen-none (known .u) (request (known .h) (known .additional .now)) (other .0 .0 .0 .0 .0 .0 .0 .0 .1) (other .0 .0 .0 .0 .0 .0 .0 .1)
+    (chosen-none (known .u) (request (known .h) (known .additional .now)) (known .reach) (other .0 .0 .0 .0 .0 .0 .0 .0 .1) (other .0 .0 .0 .0 .0 .0 .0 .1)
     (other .0 .0 .0 .0 .0 .0 .1) (other .0 .0 .0 .0 .0 .1) (other .0 .0 .0 .0 .1) (other .0 .0 .0 .1) (other .0 .0 .1) (other .0 .1)
     (other .1))
 

@@ -35,7 +35,7 @@ returns c =
     let derived-key-at = let-through-at .before in
     let start = derived-key-at .before .before in
     denial (start .args .u) (start .args .h .id) (c .denied .ensures)
-    (ring-kept-out (start .args .u) (request (start .args .h) (start .args .additional .now)) (ap (λ (k : List ℕ). skips (start .args .u .protection) || tagged k (start .args .u .nonces .newest) (request (start .args .h) (start .args .additional .now))) (sym (derived-key-at .derived-key .ensures .keyIs)) ∙ refuted (let-through-at .let-through .ensures) (if1-at .if1 .taken)))
+    (ring-kept-out (start .args .u) (request (start .args .h) (start .args .additional .now)) (start .args .reach) (ap (λ (k : List ℕ). skips (start .args .u .protection) || tagged k (start .args .u .nonces .newest) (request (start .args .h) (start .args .additional .now))) (sym (derived-key-at .derived-key .ensures .keyIs)) ∙ refuted (let-through-at .let-through .ensures) (if1-at .if1 .taken)))
 
 ring-mask-requires : tie.Need-ring-mask-requires
 ring-mask-requires c κs =
@@ -60,7 +60,7 @@ returns-2 c =
     let derived-key-at = let-through-at .before in
     let start = derived-key-at .before .before in
     denial (start .args .u) (start .args .h .id) (c .denied2 .ensures)
-    (ring-values (start .args .u) (request (start .args .h) (start .args .additional .now)) (ap (λ (k : List ℕ). skips (start .args .u .protection) || tagged k (start .args .u .nonces .newest) (request (start .args .h) (start .args .additional .now))) (sym (derived-key-at .derived-key .ensures .keyIs)) ∙ granted (let-through-at .let-through .ensures) (if1-at .if1 .left)) (refuted (ring-legal-at .ring-legal .ensures) (if2-at .if2 .taken)))
+    (ring-values (start .args .u) (request (start .args .h) (start .args .additional .now)) (start .args .reach) (ap (λ (k : List ℕ). skips (start .args .u .protection) || tagged k (start .args .u .nonces .newest) (request (start .args .h) (start .args .additional .now))) (sym (derived-key-at .derived-key .ensures .keyIs)) ∙ granted (let-through-at .let-through .ensures) (if1-at .if1 .left)) (refuted (ring-legal-at .ring-legal .ensures) (if2-at .if2 .taken)))
 
 held-volume-requires : tie.Need-held-volume-requires
 held-volume-requires c κs = search needs
@@ -68,12 +68,16 @@ held-volume-requires c κs = search needs
 asked-timeout-requires : tie.Need-asked-timeout-requires
 asked-timeout-requires c κs = search needs
 
+ring-decision-requires : tie.Need-ring-decision-requires
+ring-decision-requires c κs = search needs
+
 rung-requires : tie.Need-rung-requires
 rung-requires c κs = search needs
 
 returns-3 : tie.Need-returns-3
 returns-3 c =
-    let asked-timeout-at = c .before in
+    let decision-at = c .before in
+    let asked-timeout-at = decision-at .before in
     let held-volume-at = asked-timeout-at .before in
     let if2-at = held-volume-at .before in
     let ring-legal-at = if2-at .before in
@@ -82,8 +86,8 @@ returns-3 c =
     let let-through-at = if1-at .before in
     let derived-key-at = let-through-at .before in
     let start = derived-key-at .before .before in
-    let as-rung = ring-rung (start .args .u) (request (start .args .h) (start .args .additional .now)) (ap (λ (k : List ℕ). skips (start .args .u .protection) || tagged k (start .args .u .nonces .newest) (request (start .args .h) (start .args .additional .now))) (sym (derived-key-at .derived-key .ensures .keyIs)) ∙ granted (let-through-at .let-through .ensures) (if1-at .if1 .left))
-    (granted (ring-legal-at .ring-legal .ensures) (if2-at .if2 .left)) (ring-mask-at .ring-mask .ensures) (held-volume-at .held-volume .ensures) (asked-timeout-at .asked-timeout .ensures) in
+    let as-rung = ring-rung (start .args .u) (request (start .args .h) (start .args .additional .now)) (start .args .reach) (ap (λ (k : List ℕ). skips (start .args .u .protection) || tagged k (start .args .u .nonces .newest) (request (start .args .h) (start .args .additional .now))) (sym (derived-key-at .derived-key .ensures .keyIs)) ∙ granted (let-through-at .let-through .ensures) (if1-at .if1 .left))
+    (granted (ring-legal-at .ring-legal .ensures) (if2-at .if2 .left)) (ring-mask-at .ring-mask .ensures) (held-volume-at .held-volume .ensures) (asked-timeout-at .asked-timeout .ensures) (decision-at .ring-decision .ensures) in
     judged-with (start .pre .1 .1) as-rung (c .rung .ensures)
 
 pub ring-spec : {M : Type 1} → statement M
@@ -100,5 +104,6 @@ ring-spec =
     returns-2
     held-volume-requires
     asked-timeout-requires
+    ring-decision-requires
     rung-requires
     returns-3)

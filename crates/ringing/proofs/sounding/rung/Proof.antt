@@ -1,24 +1,19 @@
--- `sounding::rung` meets its contract: a stop, or a ring.
-use Rattle.authentication.proofs.Judged.{denial, grant}
-use Rattle.authentication.specs.Judgement.{tagged, lastNonce}
-use Rattle.laws.proofs.Flags.{granted, refuted}
-use Rattle.unit.proofs.Lines.{lines}
-use Rattle.wire.specs.Shape.{request}
-use mathlib.Core.Path.{_≡_, refl, sym, ap, _∙_}
-use mathlib.Core.List.{List}
-use native.Mathlib.Omega.{arith}
-use Prim.Native.Nat.{ℕ}
-use Rattle.ringing.proofs.Rings.{rung-stop, rung-ring}
+-- `sounding::rung` meets its contract, a case of the decision each.
+use Rattle.authentication.proofs.Judged.{grant}
 use Rattle.wire.specs.Signing.{ringId}
+use Rattle.ringing.proofs.Rings.{rung-ring, rung-stop, rung-fail}
 use borrow.Author.Needs.{needs}
 use Rattle.ringing.proofs.sounding.rung.Statement.{statement}
 use Rattle.ringing.proofs.sounding.rung.Tie as tie
 
+enum-known-decision : tie.Need-enum-known-decision
+enum-known-decision c = search needs
+
 notice-data-requires : tie.Need-notice-data-requires
 notice-data-requires c κs = search needs
 
-silenced-requires : tie.Need-silenced-requires
-silenced-requires c κs = search needs
+with-sound-requires : tie.Need-with-sound-requires
+with-sound-requires c κs = search needs
 
 slice-aggregate-granted : tie.Need-slice-aggregate-granted
 slice-aggregate-granted c = search needs
@@ -26,20 +21,14 @@ slice-aggregate-granted c = search needs
 granted-requires : tie.Need-granted-requires
 granted-requires c κs = search needs
 
-returns : tie.Need-returns
-returns c =
-    let silenced-at = c .before .before in
-    let notice-data-at = silenced-at .before in
-    let if1-at = notice-data-at .before in
-    let start = if1-at .before in
-    grant (start .args .u) ringId (start .pre) (c .granted .ensures)
-    (rung-stop (start .args .u) (start .args .volume) (start .args .left) (if1-at .if1 .taken) (silenced-at .silenced .ensures) (notice-data-at .notice-data .ensures))
+enum-told : tie.Need-enum-told
+enum-told c = search needs
 
 notice-data-requires-2 : tie.Need-notice-data-requires-2
 notice-data-requires-2 c κs = search needs
 
-with-sound-requires : tie.Need-with-sound-requires
-with-sound-requires c κs = search needs
+silenced-requires : tie.Need-silenced-requires
+silenced-requires c κs = search needs
 
 slice-aggregate-granted-2 : tie.Need-slice-aggregate-granted-2
 slice-aggregate-granted-2 c = search needs
@@ -47,26 +36,62 @@ slice-aggregate-granted-2 c = search needs
 granted-requires-2 : tie.Need-granted-requires-2
 granted-requires-2 c κs = search needs
 
+enum-told-2 : tie.Need-enum-told-2
+enum-told-2 c = search needs
+
+fail-data-requires : tie.Need-fail-data-requires
+fail-data-requires c κs = search needs
+
+slice-aggregate-granted-3 : tie.Need-slice-aggregate-granted-3
+slice-aggregate-granted-3 c = search needs
+
+granted-requires-3 : tie.Need-granted-requires-3
+granted-requires-3 c κs = search needs
+
+returns : tie.Need-returns
+returns c =
+    let with-sound-at = c .before .before in
+    let notice-data-at = with-sound-at .before in
+    let decision-at = notice-data-at .before .before .before .before in
+    let start = decision-at .before .before in
+    grant (start .args .u) ringId (start .pre) (c .granted .ensures)
+    (rung-ring (start .args .u) (start .args .volume) (start .args .left) (decision-at .decision .given .1) (with-sound-at .with-sound .ensures) (notice-data-at .notice-data .ensures))
+
 returns-2 : tie.Need-returns-2
 returns-2 c =
-    let with-sound-at = c .before .before in
-    let notice-data2-at = with-sound-at .before in
-    let if1-at = notice-data2-at .before .before .before in
-    let start = if1-at .before in
+    let silenced-at = c .before .before in
+    let notice-data-at = silenced-at .before in
+    let told-at = notice-data-at .before in
+    let start = told-at .before .before in
     grant (start .args .u) ringId (start .pre) (c .granted2 .ensures)
-    (rung-ring (start .args .u) (start .args .volume) (start .args .left) (if1-at .if1 .left) (with-sound-at .with-sound .ensures) (notice-data2-at .notice-data2 .ensures))
+    (rung-stop (start .args .u) (start .args .volume) (start .args .left) (told-at .enum-told .given .1) (silenced-at .silenced .ensures) (notice-data-at .notice-data2 .ensures))
+
+returns-3 : tie.Need-returns-3
+returns-3 c =
+    let fail-data-at = c .before .before in
+    let told-at = fail-data-at .before in
+    let start = told-at .before .before in
+    grant (start .args .u) ringId (start .pre) (c .granted3 .ensures)
+    (rung-fail (start .args .u) (start .args .volume) (start .args .left) (told-at .enum-told2 .given .1) (fail-data-at .fail-data .ensures))
 
 pub rung-spec : {M : Type 1} → statement M
 rung-spec =
     tie.close
     (tie.spec
+    enum-known-decision
     notice-data-requires
-    silenced-requires
+    with-sound-requires
     slice-aggregate-granted
     granted-requires
-    returns
+    enum-told
     notice-data-requires-2
-    with-sound-requires
+    silenced-requires
     slice-aggregate-granted-2
     granted-requires-2
-    returns-2)
+    enum-told-2
+    fail-data-requires
+    slice-aggregate-granted-3
+    granted-requires-3
+    returns
+    returns-2
+    returns-3)

@@ -38,14 +38,14 @@ enum-known-what-2 c = search needs
 follow-requires-3 : tie.Need-follow-requires-3
 follow-requires-3 c κs = search needs
 
-enum-told-3 : tie.Need-enum-told-3
-enum-told-3 c = search needs
+enum-known-what-3 : tie.Need-enum-known-what-3
+enum-known-what-3 c = search needs
 
 follow-requires-4 : tie.Need-follow-requires-4
 follow-requires-4 c κs = search needs
 
-enum-known-what-3 : tie.Need-enum-known-what-3
-enum-known-what-3 c = search needs
+enum-known-what-4 : tie.Need-enum-known-what-4
+enum-known-what-4 c = search needs
 
 array-share-prefix-bytes : tie.Need-array-share-prefix-bytes
 array-share-prefix-bytes c = search needs
@@ -56,8 +56,8 @@ slice-aggregate-bring c = sym (length-take-le (c .before .before .before .before
 bring-requires : tie.Need-bring-requires
 bring-requires c κs = search needs
 
-enum-told-4 : tie.Need-enum-told-4
-enum-told-4 c = search needs
+enum-told-3 : tie.Need-enum-told-3
+enum-told-3 c = search needs
 
 breaks-requires : tie.Need-breaks-requires
 breaks-requires c κs = search needs
@@ -66,17 +66,17 @@ returns : tie.Need-returns
 returns c =
     let run = c .before .before .before .before .before .args .run in
     let ready = c .before .before .before .before .before .pre .0 in
-    let base = keeping (toZ w32 (ofZ w32 (c .before .before .what .given .0 .0))) (run .components) (run .r) (run .filled) run in
+    let base = keeping (toZ w32 (ofZ w32 (c .before .before .what .given .0 .0))) (run .components) (run .kept) (run .filled) run in
     closes-told run (c .before .before .before .before .before .args .number) (take (c .before .before .before .before .before .args .count) (c .before .before .before .before .before .args .t4)) (c .before .before .what .given .1)
-    (closes-moved (lines.components (c .before .before .what .given .0 .0)) awaited.Components base (c .follow .ensures .0) (ready .going) (ready .counted) (ready .bounded .withinR) (ap lines.components (search needs)) (c .follow .ensures .1))
+    (closes-moved (lines.components (c .before .before .what .given .0 .0)) awaited.Components base (c .follow .ensures .0) (ready .going) (ready .counted) (ready .bounded .withinKept) (ap lines.components (search needs)) (c .follow .ensures .1))
 
 returns-2 : tie.Need-returns-2
 returns-2 c =
     let run = c .before .before .before .before .args .run in
     let ready = c .before .before .before .before .pre .0 in
-    let base = keeping (run .power) (c .before .before .before .before .args .number) (run .r) (run .filled) run in
+    let base = keeping (run .power) (c .before .before .before .before .args .number) (run .kept) (run .filled) run in
     closes-told run (c .before .before .before .before .args .number) (take (c .before .before .before .before .args .count) (c .before .before .before .before .args .t4)) (c .before .enum-told .given .1)
-    (closes-moved (lines.volume (run .power) (c .before .before .before .before .args .number)) awaited.Volume base (c .follow2 .ensures .0) (ready .going) (ready .counted) (ready .bounded .withinR) refl (c .follow2 .ensures .1))
+    (closes-moved (lines.volume (run .power) (c .before .before .before .before .args .number)) awaited.Volume base (c .follow2 .ensures .0) (ready .going) (ready .counted) (ready .bounded .withinKept) refl (c .follow2 .ensures .1))
 
 same-length : tie.Need-same-length
 same-length c = search needs
@@ -90,28 +90,29 @@ returns-4 c =
     let ready = c .before .before .before .before .before .pre .0 in
     let next = c .before .before .what2 .given .0 .0 in
     closes-told run (c .before .before .before .before .before .args .number) (take (c .before .before .before .before .before .args .count) (c .before .before .before .before .before .args .t4)) (c .before .before .what2 .given .1)
-    (closes-moved (awaiting next (run .power) (run .components) (take (run .filled) (run .r))) next run (c .follow3 .ensures .0) (ready .going) (ready .counted) (ready .bounded .withinR) refl (c .follow3 .ensures .1))
+    (closes-moved (awaiting next (run .power) (run .components) (take (run .filled) (run .kept))) next run (c .follow3 .ensures .0) (ready .going) (ready .counted) (ready .bounded .withinKept) refl (c .follow3 .ensures .1))
 
 returns-5 : tie.Need-returns-5
 returns-5 c =
-    let run = c .before .before .before .before .args .run in
-    let ready = c .before .before .before .before .pre .0 in
-    let base = keeping (run .power) (run .components) (c .before .before .before .before .args .t4) (c .before .before .before .before .args .count) run in
-    closes-told run (c .before .before .before .before .args .number) (take (c .before .before .before .before .args .count) (c .before .before .before .before .args .t4)) (c .before .enum-told3 .given .1)
-    (closes-moved (lines.id (take (c .before .before .before .before .args .count) (c .before .before .before .before .args .t4))) awaited.Id base (c .follow4 .ensures .0) (ready .going) (ready .counted) (c .before .before .before .before .pre .1) refl (c .follow4 .ensures .1))
+    let run = c .before .before .before .before .before .args .run in
+    let ready = c .before .before .before .before .before .pre .0 in
+    let base = keeping (run .power) (run .components) (c .before .before .before .before .before .args .t4) (c .before .before .before .before .before .args .count) run in
+    let next = c .before .before .what3 .given .0 .0 in
+    closes-told run (c .before .before .before .before .before .args .number) (take (c .before .before .before .before .before .args .count) (c .before .before .before .before .before .args .t4)) (c .before .before .what3 .given .1)
+    (closes-moved (awaiting next (run .power) (run .components) (take (c .before .before .before .before .before .args .count) (c .before .before .before .before .before .args .t4))) next base (c .follow4 .ensures .0) (ready .going) (ready .counted) (c .before .before .before .before .before .pre .1) refl (c .follow4 .ensures .1))
 
 same-length-2 : tie.Need-same-length-2
 same-length-2 c = search needs
 
 returns-6 : tie.Need-returns-6
-returns-6 c = closes-told (c .before .before .before .before .before .before .before .before .before .args .run) (c .before .before .before .before .before .before .before .before .before .args .number) (take (c .before .before .before .before .before .before .before .before .before .args .count) (c .before .before .before .before .before .before .before .before .before .args .t4)) (c .before .before .before .before .before .before .what3 .given .1) (c .before .before .bring .ensures)
+returns-6 c = closes-told (c .before .before .before .before .before .before .before .before .before .args .run) (c .before .before .before .before .before .before .before .before .before .args .number) (take (c .before .before .before .before .before .before .before .before .before .args .count) (c .before .before .before .before .before .before .before .before .before .args .t4)) (c .before .before .before .before .before .before .what4 .given .1) (c .before .before .bring .ensures)
 
 same-length-3 : tie.Need-same-length-3
 same-length-3 c = search needs
 
 returns-7 : tie.Need-returns-7
 unfolding closed
-returns-7 c = closes-told (c .before .before .before .before .before .before .before .args .run) (c .before .before .before .before .before .before .before .args .number) (take (c .before .before .before .before .before .before .before .args .count) (c .before .before .before .before .before .before .before .args .t4)) (c .before .before .before .before .enum-told4 .given .1) (c .before .before .breaks .ensures)
+returns-7 c = closes-told (c .before .before .before .before .before .before .before .args .run) (c .before .before .before .before .before .before .before .args .number) (take (c .before .before .before .before .before .before .before .args .count) (c .before .before .before .before .before .before .before .args .t4)) (c .before .before .before .before .enum-told3 .given .1) (c .before .before .breaks .ensures)
 
 pub act-spec : {M : Type 1} → statement M
 act-spec =
@@ -125,13 +126,13 @@ act-spec =
     create-requires
     enum-known-what-2
     follow-requires-3
-    enum-told-3
-    follow-requires-4
     enum-known-what-3
+    follow-requires-4
+    enum-known-what-4
     array-share-prefix-bytes
     slice-aggregate-bring
     bring-requires
-    enum-told-4
+    enum-told-3
     breaks-requires
     returns
     returns-2

@@ -17,7 +17,7 @@ returns c =
     let known = c .before .before .before .before .before .args in
     record {
       stateIs = refl;
-      bounded = record { numbered = c .before .before .before .before .before .pre .1 .numbered; withinR = c .before .before .before .before .before .pre .1 .withinR };
+      bounded = record { numbered = c .before .before .before .before .before .pre .1 .numbered; withinKept = c .before .before .before .before .before .pre .1 .withinKept };
       few = omega (arith, length-malformed (known .run .number));
       puts = c .before .before .malformed .ensures;
     }

@@ -8,16 +8,16 @@ use Rattle.session.proofs.ClosedLines.{closes-event}
 use Rattle.session.proofs.closing.bring.Statement.{statement}
 use Rattle.session.proofs.closing.bring.Tie as tie
 
-array-share-prefix-r : tie.Need-array-share-prefix-r
-array-share-prefix-r c =
-    let size : length (c .before .before .before .before .args .run .r) ≡ 128 = search needs in
-    omega (arith, c .before .before .before .before .pre .bounded .withinR)
+array-share-prefix-kept : tie.Need-array-share-prefix-kept
+array-share-prefix-kept c =
+    let size : length (c .before .before .before .before .args .run .kept) ≡ 128 = search needs in
+    omega (arith, c .before .before .before .before .pre .bounded .withinKept)
 
 slice-aggregate-perform : tie.Need-slice-aggregate-perform
 slice-aggregate-perform c =
     let known = c .before .before .before .before .before .args .run in
-    let size : length (known .r) ≡ 128 = search needs in
-    sym (length-take-le (known .filled) (known .r) (omega (arith, c .before .before .before .before .before .pre .bounded .withinR)))
+    let size : length (known .kept) ≡ 128 = search needs in
+    sym (length-take-le (known .filled) (known .kept) (omega (arith, c .before .before .before .before .before .pre .bounded .withinKept)))
 
 perform-requires : tie.Need-perform-requires
 perform-requires c κs = search needs
@@ -35,7 +35,7 @@ pub bring-spec : {M : Type 1} → statement M
 bring-spec =
     tie.close
     (tie.spec
-    array-share-prefix-r
+    array-share-prefix-kept
     slice-aggregate-perform
     perform-requires
     advance-requires

@@ -35,7 +35,7 @@ returns-2 : tie.Need-returns-2
 returns-2 c =
     let known = c .before .before .before .before .before .before .before .before .before .before .before .args in
     let run = known .run in
-    let said = c .before .before .before .before .before .read .ensures .lineIs (run .power) (run .components) (take (run .filled) (run .r)) in
+    let said = c .before .before .before .before .before .read .ensures .lineIs (run .power) (run .components) (take (run .filled) (run .kept)) in
     closes-as (run .number) (run .unit) (said ∙ judged-is run (known .line .now) refl (c .before .before .before .before .before .before .before .before .before .before .before .pre .short) (c .before .before .before .before .before .before .before .if1 .left)) (c .before .before .act .ensures)
 
 pub close-spec : {M : Type 1} → statement M

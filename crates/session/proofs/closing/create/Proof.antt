@@ -50,7 +50,7 @@ returns c =
     closes-fed (run .number) (run .unit) (ap (λ (x : Reply). begunBy x u (run .number)) (sym (c .before .before .enum-told .given .1)) ∙ begun)
     (record {
       stateIs = rw (c .advance .ensures, ready .going, add-one);
-      bounded = rw (c .advance .ensures) (record { numbered = omega (arith, ready .counted); withinR = ready .bounded .withinR });
+      bounded = rw (c .advance .ensures) (record { numbered = omega (arith, ready .counted); withinKept = ready .bounded .withinKept });
       few = omega arith;
       puts = puts-nothing (known .at) (known .out .now);
     })
@@ -72,7 +72,7 @@ returns-2 c =
     closes-fed (run .number) (run .unit) (ap (λ (x : Reply). begunBy x u (run .number)) (sym (c .before .before .before .before .before .reply .given .1)) ∙ begun)
     (record {
       stateIs = refl;
-      bounded = record { numbered = ready .bounded .numbered; withinR = ready .bounded .withinR };
+      bounded = record { numbered = ready .bounded .numbered; withinKept = ready .bounded .withinKept };
       few = omega (arith, length-refused (refusalNumber (c .before .before .before .before .before .reply .given .0 .0)));
       puts = c .before .before .refused .ensures;
     })

@@ -52,6 +52,9 @@ returns c = not-legal _ (c .before .before .sound .given .1) (λ r. clash (r .id
 returns-2 : tie.Need-returns-2
 returns-2 c = not-legal _ (c .before .before .before .sound .given .1) (λ r. r .some (c .if2 .taken))
 
+cast-inside : tie.Need-cast-inside
+cast-inside c = search needs
+
 inside-requires : tie.Need-inside-requires
 inside-requires c κs = search needs
 
@@ -98,6 +101,7 @@ sound-legal-spec =
     enum-known-sound
     returns
     returns-2
+    cast-inside
     inside-requires
     returns-3
     volume-legal-requires
