@@ -3,7 +3,7 @@
 
 A size has the definition's name (nonceSize is TAG_NONCE_SIZE). A place has the names of the field that the innermost group stands for and of the field in it
 (TAG_NONCES_LIVE_AT), or of the field alone where it stands in the unit itself or is a group's only one (TAG_CONSENT_AT, TAG_PROTECTION_AT).
-The numbers that a table of docs/INTEGRATION.md gives for constants are held to the header too.
+The numbers that a table of docs/INTEGRATION.md gives for constants, and those of the host in Rust, are held to the header too.
 """
 import pathlib
 import re
@@ -90,13 +90,15 @@ def main():
     differing = sorted(n for n in wanted.keys() | header.keys() if wanted.get(n) != header.get(n))
     for name in differing:
         print(f"{name}: the definitions say {wanted.get(name)}, the header says {header.get(name)}")
-    told = re.findall(r"^\| `(TAG_\w+)` \| (\d+) \|", read("docs/INTEGRATION.md"), re.M)
-    wrong = [(name, n) for name, n in told if header.get(name) != int(n)]
-    for name, n in wrong:
-        print(f"{name}: docs/INTEGRATION.md says {n}, the header says {header.get(name)}")
+    told = [("docs/INTEGRATION.md", name, n) for name, n in re.findall(r"^\| `(TAG_\w+)` \| (\d+) \|", read("docs/INTEGRATION.md"), re.M)]
+    rust = "examples/host_rust/main.rs"
+    told += [(rust, "TAG_" + name, n) for name, n in re.findall(r"^const (\w+): usize = (\d+);", read(rust), re.M)]
+    wrong = [(where, name, n) for where, name, n in told if header.get(name) != int(n)]
+    for where, name, n in wrong:
+        print(f"{name}: {where} says {n}, the header says {header.get(name)}")
     if differing or wrong:
         sys.exit(1)
-    print(f"layout: {len(wanted)} constants agree, {len(told)} of them in docs/INTEGRATION.md")
+    print(f"layout: {len(wanted)} constants agree, {len(told)} numbers in docs/INTEGRATION.md and the host in Rust too")
 
 
 main()

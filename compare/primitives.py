@@ -3,8 +3,9 @@
 
 usage: primitives.py LIBRARY.so [COUNT]
 
-LIBRARY.so exports tag_sha256, tag_hmac_sha256, tag_aes128_encrypt and tag_aes128_decrypt (include/tag.h). COUNT is the number of random
-cases of each kind beyond the fixed ones (default 1000). Prints counts, and the first difference; exit status 1 on a difference.
+LIBRARY.so exports tag_sha256, tag_hmac_sha256, tag_aes128_encrypt and tag_aes128_decrypt (include/tag.h), and perhaps tag_aes256_encrypt.
+COUNT is the number of random cases of each kind beyond the fixed ones (default 1000). Prints counts, and the first difference; exit
+status 1 on a difference.
 """
 import ctypes, hashlib, hmac, random, subprocess, sys
 
@@ -52,7 +53,7 @@ def check_mac(key, message, room=32):
 
 
 def openssl(key, data, *way):
-    run = subprocess.run(["openssl", "enc", "-aes-128-ecb", "-nopad", "-K", key.hex(), *way], input=data, stdout=subprocess.PIPE, check=True)
+    run = subprocess.run(["openssl", "enc", f"-aes-{8 * len(key)}-ecb", "-nopad", "-K", key.hex(), *way], input=data, stdout=subprocess.PIPE, check=True)
     return run.stdout
 
 
@@ -85,4 +86,12 @@ for _ in range(max(1, count // 50)):
 for k, b, room in ((15, 16, 16), (17, 16, 16), (0, 16, 16), (32, 16, 16), (16, 15, 16), (16, 17, 16), (16, 0, 16), (16, 16, 15), (16, 16, 17), (16, 16, 0)):
     for name in ("tag_aes128_encrypt", "tag_aes128_decrypt"):
         same("cipher refusals", f"{name} key {k}, block {b}, room {room}", call(name, [bytes(k), bytes(b)], room), refused(room))
+if hasattr(lib, "tag_aes256_encrypt"):
+    for _ in range(max(1, count // 50)):
+        key, blocks = rng.randbytes(32), [rng.randbytes(16) for _ in range(100)]
+        there = openssl(key, b"".join(blocks))
+        for i, block in enumerate(blocks):
+            same("encrypt 256", f"key {key.hex()} block {block.hex()}", call("tag_aes256_encrypt", [key, block], 16), (16, there[16 * i:16 * i + 16]))
+    for k, b, room in ((16, 16, 16), (24, 16, 16), (31, 16, 16), (33, 16, 16), (0, 16, 16), (32, 15, 16), (32, 17, 16), (32, 0, 16), (32, 16, 15), (32, 16, 17), (32, 16, 0)):
+        same("cipher 256 refusals", f"key {k}, block {b}, room {room}", call("tag_aes256_encrypt", [bytes(k), bytes(b)], room), refused(room))
 print("no difference:", ", ".join(f"{kind} {n}" for kind, n in cases.items()))

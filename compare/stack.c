@@ -20,15 +20,19 @@ static void frame(void) { tag_frame(record, sizeof record, answer, TAG_ANSWER_RO
 static void hash(void) { tag_sha256(message, sizeof message, answer, 32); }
 static void mac(void) { tag_hmac_sha256(key, 16, message, sizeof message, answer, 32); }
 static void encrypt(void) { tag_aes128_encrypt(key, 16, key, 16, answer, 16); }
+static void encrypt256(void) { tag_aes256_encrypt(message, 32, key, 16, answer, 16); }
 /* 0x00 with the tag of the account key: search, HMAC, AES and the signed answer */
-static void write_request(void) {
-    uint8_t covered[11] = {1}, tag[32], w[10] = {0x00, 8};
+static void write_of(uint8_t id) {
+    uint8_t covered[11] = {1}, tag[32], w[10] = {id, 8};
     memcpy(covered + 1, record + TAG_NONCE_BYTES_AT, TAG_NONCE_SIZE);
-    covered[9] = 0x00, covered[10] = 8;
+    covered[9] = id, covered[10] = 8;
     tag_hmac_sha256(key, 16, covered, 11, tag, 32);
     memcpy(w + 2, tag, 8);
     served = tag_write(record, sizeof record, w, 10, 0, answer, TAG_ANSWER_ROOM);
 }
+static void write_parameters(void) { write_of(0x00); }
+/* 0x01: a multiple on the curve too */
+static void write_state(void) { write_of(0x01); }
 
 static size_t used(void (*f)(void)) {
     memset(stack, PAINT, SIZE);
@@ -43,9 +47,12 @@ static size_t used(void (*f)(void)) {
 
 int main(void) {
     tag_new(record, sizeof record, -20, 3, 1);
+    tag_account_key(record, sizeof record, key, 16);
+    record[TAG_OWNER_KIND_AT] = 1, record[TAG_IDENTITY_HELD_AT] = 1; /* an owner and an identity key of zeros, for the frame */
     size_t base = used(nothing);
-    struct { const char *name; void (*call)(void); } calls[] = {{"tag_account_key", add_key}, {"tag_read", read_nonce}, {"tag_write 0x00", write_request},
-        {"tag_button", button}, {"tag_elapsed", elapsed}, {"tag_frame", frame}, {"tag_sha256", hash}, {"tag_hmac_sha256", mac}, {"tag_aes128_encrypt", encrypt}};
+    struct { const char *name; void (*call)(void); } calls[] = {{"tag_account_key", add_key}, {"tag_read", read_nonce}, {"tag_write 0x00", write_parameters},
+        {"tag_read", read_nonce}, {"tag_write 0x01", write_state},
+        {"tag_button", button}, {"tag_elapsed", elapsed}, {"tag_frame", frame}, {"tag_sha256", hash}, {"tag_hmac_sha256", mac}, {"tag_aes128_encrypt", encrypt}, {"tag_aes256_encrypt", encrypt256}};
     /* each once before it is measured: the first call also binds the C library's functions */
     for (size_t i = 0; i < sizeof calls / sizeof *calls; i++) used(calls[i].call);
     for (size_t i = 0; i < sizeof calls / sizeof *calls; i++) printf("%-20s %zu bytes\n", calls[i].name, used(calls[i].call) - base);

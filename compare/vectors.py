@@ -169,6 +169,8 @@ def of_sizes():
     for call in ("encrypt", "decrypt"):
         for _, (_, _, key, message, room) in source.calls("blocks"):
             yield of_size(call, key, message, room)
+    for _, (_, _, key, message, room) in source.calls("blocks_under_long_keys"):
+        yield of_size("encrypt256", key, message, room)
     for i in range(1, 65):
         yield of_size("sha256", 0, 64 + 99 * i, 32)
 
@@ -179,8 +181,8 @@ def of_size(call, key, message, room):
         served = max(key, message) <= LONGEST and room == 32
         answer = served and (mac(k, m) if call == "hmac" else sha256(m))
     else:
-        served = (key, message, room) == (16, 16, 16)
-        answer = served and cipher(k, call == "encrypt")(m)
+        served = (key, message, room) == (32 if call == "encrypt256" else 16, 16, 16)
+        answer = served and cipher(k, call != "decrypt")(m)
     return f"{call} {key} {message} {room} " + ending(answer, room)
 
 

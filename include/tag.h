@@ -43,7 +43,7 @@ extern "C" {
 #define TAG_HEAD_SIZE (2 + TAG_TAG_SIZE) /* ID, length and tag, before the data of a request or an answer */
 #define TAG_ANSWER_ROOM (TAG_HEAD_SIZE + TAG_IDENTITY_KEY_SIZE) /* the fewest answer bytes that a call with an answer takes */
 #define TAG_DIGEST_SIZE 32
-#define TAG_BLOCK_SIZE 16 /* of an AES key too */
+#define TAG_BLOCK_SIZE 16 /* of a key of AES-128 too */
 #define TAG_LONGEST_MESSAGE 65535
 #define TAG_MOST_NONCES 16
 #define TAG_MOST_KEYS 5
@@ -79,7 +79,7 @@ extern "C" {
 
 /* The record: where each field starts, right behind the one before it. Numbers are big-endian; a flag is 0 or 1; what is absent is zero.
  * The version is raised by every change of the layout; it is never 0x00 or 0xFF. */
-#define TAG_VERSION 0x03
+#define TAG_VERSION 0x04
 #define TAG_VERSION_AT 0 /* TAG_VERSION */
 #define TAG_SETTINGS_POWER_AT (TAG_VERSION_AT + 1) /* 4 bytes, two's complement */
 #define TAG_SETTINGS_COMPONENTS_AT (TAG_SETTINGS_POWER_AT + 4)
@@ -107,11 +107,7 @@ extern "C" {
 #define TAG_CONSENT_AT (TAG_PROTECTION_AT + 1) /* 2 bytes: tenths left */
 #define TAG_PAIRING_AT (TAG_CONSENT_AT + 2)
 #define TAG_BATTERY_AT (TAG_PAIRING_AT + 1)
-#define TAG_IDENTIFIER_HELD_AT (TAG_BATTERY_AT + 1)
-#define TAG_IDENTIFIER_R_AT (TAG_IDENTIFIER_HELD_AT + 1)
-#define TAG_IDENTIFIER_ID_AT (TAG_IDENTIFIER_R_AT + TAG_IDENTIFIER_SIZE)
-#define TAG_IDENTIFIER_WINDOW_AT (TAG_IDENTIFIER_ID_AT + TAG_IDENTIFIER_SIZE) /* 4 bytes */
-#define TAG_RECORD_SIZE (TAG_IDENTIFIER_WINDOW_AT + 4)
+#define TAG_RECORD_SIZE (TAG_BATTERY_AT + 1)
 
 /* A new unit, fresh, in a record of TAG_RECORD_SIZE bytes: power -100 to 20, components 0 to 3, volume selectable 0 or 1.
  * Refusals: 2 for a record of another length, 1 for settings out of range; the bytes then stay as they were. Gives 0. */
@@ -147,14 +143,14 @@ uint64_t tag_battery(uint8_t *record, uint64_t record_bytes, uint32_t level);
 /* Adds an account key of TAG_ACCOUNT_KEY_SIZE bytes; one already held changes nothing. Refusals: 2, 4 (also for a sixth new key). Gives 0. */
 uint64_t tag_account_key(uint8_t *record, uint64_t record_bytes, const uint8_t *key, uint64_t key_bytes);
 
-/* The phone has hung up: an identity key that waits since an accepted 0x02 comes into force; a ring then ends without a notice, and the lent
- * identifier is dropped. Without a waiting key nothing changes. Refusal: 2. Gives 0. */
+/* The phone has hung up: an identity key that waits since an accepted 0x02 comes into force, and a ring then ends without a notice. Without a waiting
+ * key nothing changes. Refusal: 2. Gives 0. */
 uint64_t tag_disconnect(uint8_t *record, uint64_t record_bytes);
 
-/* Lends the identifier of the current window, with its r, of TAG_IDENTIFIER_SIZE bytes each. Refusals: 2, 1, 5 without an identity key in force. Gives 0. */
-uint64_t tag_lend_identifier(uint8_t *record, uint64_t record_bytes, const uint8_t *r, uint64_t r_bytes, const uint8_t *id, uint64_t id_bytes);
-
-/* The advertised frame. Refusals: 6, 2, 5 without an identity key in force or an identifier of the current window. Gives 28 or 29. */
+/* The advertised frame, with the identifier that the unit works out for the current window from the identity key in force. Each call computes a multiple
+ * on the curve, as does each 0x01 that is served with a key in force: by far the dearest calls. So ask for a frame when the window, the key in force,
+ * protection or the battery level has changed (tag_sleep tells when the window does), and keep it until then. The record stays as it is.
+ * Refusals: 6, 2, 5 without an identity key in force or where r is 0. Gives 28 or 29. */
 uint64_t tag_frame(uint8_t *record, uint64_t record_bytes, uint8_t *answer, uint64_t answer_bytes);
 
 /* The reader of frames, of this tag or another, without a record: any bytes may be handed in. A frame is read into parts that the caller lends:
@@ -179,12 +175,13 @@ uint64_t tag_frame_read(const uint8_t *frame, uint64_t frame_bytes, uint8_t *par
  * other than TAG_IDENTIFIER_SIZE bytes; 8 at the flags byte where this r shows that our writer did not make it. Gives TAG_PARTS_WITH_R_SIZE. */
 uint64_t tag_frame_read_with_r(const uint8_t *frame, uint64_t frame_bytes, const uint8_t *r, uint64_t r_bytes, uint8_t *parts, uint64_t parts_bytes);
 
-/* The primitives. Messages and HMAC keys have up to TAG_LONGEST_MESSAGE bytes, AES keys and blocks TAG_BLOCK_SIZE; a hash answer has
- * TAG_DIGEST_SIZE bytes, a block answer TAG_BLOCK_SIZE. Refusal: 7. They give their answer's bytes. */
+/* The primitives. Messages and HMAC keys have up to TAG_LONGEST_MESSAGE bytes, blocks and keys of AES-128 TAG_BLOCK_SIZE, keys of AES-256
+ * twice as many; a hash answer has TAG_DIGEST_SIZE bytes, a block answer TAG_BLOCK_SIZE. Refusal: 7. They give their answer's bytes. */
 uint64_t tag_sha256(const uint8_t *message, uint64_t message_bytes, uint8_t *answer, uint64_t answer_bytes);
 uint64_t tag_hmac_sha256(const uint8_t *key, uint64_t key_bytes, const uint8_t *message, uint64_t message_bytes, uint8_t *answer, uint64_t answer_bytes);
 uint64_t tag_aes128_encrypt(const uint8_t *key, uint64_t key_bytes, const uint8_t *block, uint64_t block_bytes, uint8_t *answer, uint64_t answer_bytes);
 uint64_t tag_aes128_decrypt(const uint8_t *key, uint64_t key_bytes, const uint8_t *block, uint64_t block_bytes, uint8_t *answer, uint64_t answer_bytes);
+uint64_t tag_aes256_encrypt(const uint8_t *key, uint64_t key_bytes, const uint8_t *block, uint64_t block_bytes, uint8_t *answer, uint64_t answer_bytes);
 
 #ifdef __cplusplus
 }

@@ -1,4 +1,4 @@
-"""AES-128, both ways, for blocks one after another; written from FIPS 197."""
+"""AES-128, both ways, and AES-256 encryption, for blocks one after another; written from FIPS 197."""
 
 
 def times(a, b):
@@ -30,16 +30,19 @@ PRODUCT = {f: [times(f, x) for x in range(256)] for f in (1, 2, 3, 9, 11, 13, 14
 
 
 def round_keys(key):
-    words = [list(key[4 * i:4 * i + 4]) for i in range(4)]
+    size = len(key) // 4
+    words = [list(key[4 * i:4 * i + 4]) for i in range(size)]
     constant = 1
-    for i in range(4, 44):
+    for i in range(size, 4 * (size + 7)):
         word = words[-1]
-        if i % 4 == 0:
+        if i % size == 0:
             word = [BOX[x] for x in word[1:] + word[:1]]
             word[0] ^= constant
             constant = times(constant, 2)
-        words.append([x ^ y for x, y in zip(words[i - 4], word)])
-    return [sum(words[4 * r:4 * r + 4], []) for r in range(11)]
+        elif size == 8 and i % 8 == 4:
+            word = [BOX[x] for x in word]
+        words.append([x ^ y for x, y in zip(words[i - size], word)])
+    return [sum(words[4 * r:4 * r + 4], []) for r in range(size + 7)]
 
 
 def mixed(state, row):
@@ -56,10 +59,10 @@ def mixed(state, row):
 def encrypt_block(key, block):
     keys = round_keys(key)
     state = [x ^ k for x, k in zip(block, keys[0])]
-    for r in range(1, 11):
+    for r in range(1, len(keys)):
         state = [BOX[x] for x in state]
         state = [state[(5 * i) % 16] for i in range(16)]
-        if r < 10:
+        if r < len(keys) - 1:
             state = mixed(state, (2, 3, 1, 1))
         state = [x ^ k for x, k in zip(state, keys[r])]
     return bytes(state)
@@ -85,8 +88,9 @@ def decrypt(key, data):
     return b"".join(decrypt_block(key, data[i:i + 16]) for i in range(0, len(data), 16))
 
 
-# The two examples of FIPS 197.
+# The examples of FIPS 197.
 assert encrypt_block(bytes.fromhex("2b7e151628aed2a6abf7158809cf4f3c"),
                      bytes.fromhex("3243f6a8885a308d313198a2e0370734")).hex() == "3925841d02dc09fbdc118597196a0b32"
 assert decrypt_block(bytes(range(16)), bytes.fromhex("69c4e0d86a7b0430d8cdb78070b4c55a")).hex() \
     == "00112233445566778899aabbccddeeff"
+assert encrypt_block(bytes(range(32)), bytes.fromhex("00112233445566778899aabbccddeeff")).hex() == "8ea2b7ca516745bfeafc49904b496089"

@@ -2,7 +2,7 @@
 
 from aes import encrypt
 from model import request, sha
-from session import ANY_TAG, ID, IDENTITY_1, IDENTITY_2, KEY_A, KEY_B, R, Session, owned, stored
+from session import ANY_TAG, IDENTITY_1, IDENTITY_2, KEY_A, KEY_B, Session, owned, stored
 
 IDENTITY_3 = bytes(range(0xC0, 0xE0))
 
@@ -17,14 +17,13 @@ def offer(s, identity, proved, expect):
 
 
 def nothing_in_force(s, identity):
-    """0x03 to 0x08, frames and identifiers on a unit that has no key in force, with all that this key would give."""
+    """0x03 to 0x08 and frames on a unit that has no key in force, with all that this key would give."""
     s.status(KEY_A)
     for ident, key, data in (
         (3, KEY_A, lambda nonce: sha(identity, nonce)[:8]), (4, sub_of(identity, 1), b""), (5, sub_of(identity, 2), bytes([1, 0, 9, 0])),
         (6, sub_of(identity, 2), b""), (7, sub_of(identity, 3), b"\x01"), (8, sub_of(identity, 3), lambda nonce: sha(identity, nonce)[:8]),
     ):
         s.ask(key, ident, data, expect=0x80)
-    s.identifier(R, ID, expect=5)
     s.frame(expect=5)
 
 
@@ -39,8 +38,6 @@ def first_key_waits_for_the_disconnect():
     nothing_in_force(s, IDENTITY_1)
     s.disconnect()
     s.status(KEY_A)
-    s.frame(expect=5)
-    s.identifier(R, ID)
     s.frame()
     s.ring(1, 5)
     s.recover()
@@ -81,7 +78,6 @@ def old_key_stays_in_force():
     s = owned()
     s.battery(1)
     s.protect(b"\x01")
-    s.identifier(R, ID)
     s.pairing(1)
     s.ring(7, 100, 1)
     s.frame()
@@ -101,14 +97,13 @@ def old_key_stays_in_force():
     s.elapsed(150, ends=100)
     s.ring(1, 50)
     s.button()
-    s.identifier(ID, R)
     s.frame()
     s.protect()
     s.unprotect()
     s.ring(2, 60)
     s.disconnect()
     s.elapsed(100, ends=0)
-    s.frame(expect=5)
+    s.frame()
     s.status(KEY_A)
     s.ask(sub_of(IDENTITY_1, 2), 6, b"", expect=0x80)
     s.ring_state()
@@ -223,7 +218,7 @@ def ring_ends_before_the_disconnect():
 
 @stored
 def disconnect_without_a_waiting_key():
-    """It changes nothing: the ring, a live nonce, consent, pairing, protection and the identifier stay."""
+    """It changes nothing: the ring, a live nonce, consent, pairing, protection and the frame stay."""
     s = Session()
     s.disconnect()
     s.key(KEY_A)
@@ -237,7 +232,6 @@ def disconnect_without_a_waiting_key():
     s.recover()
     s.elapsed(500)
     s.recover(expect=0x82)
-    s.identifier(R, ID)
     s.battery(3)
     s.protect(b"\x01")
     s.read()
@@ -269,7 +263,6 @@ def what_a_disconnect_keeps():
     s.recover()
     s.elapsed(1)
     s.recover(expect=0x82)
-    s.identifier(R, ID)
     s.frame()
     s.status(KEY_A)
     s.status(KEY_B)
@@ -282,6 +275,5 @@ def what_a_disconnect_keeps():
     s.pairing(1)
     s.recover()
     s.unprotect()
-    s.identifier(R, ID)
     s.frame()
     return s

@@ -31,10 +31,7 @@ MALFORMED = [
     ("no-on", THREE + "event=pairing\n", bad(5)),
     ("no-level", THREE + "event=battery\n", bad(5)),
     ("no-bytes", THREE + "event=key\n", bad(5)),
-    ("no-r", THREE + "event=identifier\n", bad(5)),
-    ("no-id", THREE + "event=identifier\nr=00\n", bad(6)),
     ("event-for-nonce", THREE + "event=read\nevent=button\n", bad(5)),
-    ("event-for-id", THREE + "event=identifier\nr=00\nevent=frame\n", bad(6)),
     ("answers-stand", THREE + NONCE + "event=button\nevent=read\n", READ + "answer=button\n" + bad(8)),
     ("line-after-button", THREE + "event=button\non=1\n", "answer=button\n" + bad(5)),
     ("line-after-disconnect", THREE + "event=disconnect\non=1\n", "answer=disconnect\n" + bad(5)),
@@ -75,9 +72,6 @@ MALFORMED = [
     ("key-line-of-256", THREE + "event=key\nbytes=" + "ab" * 125 + "\n", no("04")),
     ("event-line-of-256", THREE + "event=" + "a" * 250 + "\n", bad(4)),
     ("event-line-of-257", THREE + "event=" + "a" * 251 + "\n", bad(4)),
-    ("id-line-of-257", THREE + "event=identifier\nr=\nid=" + "00" * 127 + "\n", bad(6)),
-    ("r-line-of-256", THREE + "event=identifier\nr=" + "00" * 127 + "\nid=\n", no("01")),
-    ("r-line-of-258", THREE + "event=identifier\nr=" + "00" * 128 + "\nid=\n", bad(5)),
     ("long-line-not-closed", THREE + "event=read\nnonce=" + "00" * 125, bad(5)),
     ("very-long-line", THREE + "event=write\ndata=" + "00" * 50000 + "\n", bad(5)),
     ("very-long-line-not-closed", THREE + "event=write\ndata=" + "00" * 50000, bad(5)),
@@ -165,12 +159,9 @@ MALFORMED = [
     ("hex-blank-inside", THREE + "event=write\ndata=09 08\n", bad(5)),
     ("hex-0x", THREE + "event=write\ndata=0x09\n", bad(5)),
     ("hex-odd-key", THREE + "event=key\nbytes=000\n", bad(5)),
-    ("hex-odd-r", THREE + "event=identifier\nr=0\nid=00\n", bad(5)),
-    ("hex-upper-id", THREE + "event=identifier\nr=00\nid=0A\n", bad(6)),
     ("hex-empty-nonce", THREE + "event=read\nnonce=\n", no("03")),
     ("hex-empty-data", THREE + "event=write\ndata=\nreach=07\n", no("81")),
     ("hex-empty-bytes", THREE + "event=key\nbytes=\n", no("04")),
-    ("hex-empty-r-and-id", THREE + "event=identifier\nr=\nid=\n", no("01")),
     ("hex-zero-nonce-twice", THREE + "event=read\nnonce=0000000000000000\n" * 2,
      "answer=read\nbytes=010000000000000000\n" + no("03")),
     ("hex-all-digits", THREE + "event=read\nnonce=0123456789abcdef\n", "answer=read\nbytes=010123456789abcdef\n"),
@@ -202,6 +193,9 @@ MALFORMED = [
     ("reach-with-two-components", "power=0\ncomponents=2\nvolume=0\nevent=write\ndata=\nreach=03\nevent=write\ndata=\nreach=04\n", no("81") + no("01")),
     # Keys, names and order.
     ("unknown-event", THREE + "event=sleep\n", bad(4)),
+    ("identifier-is-no-event", THREE + "event=identifier\nr=" + "00" * 20 + "\nid=" + "00" * 20 + "\n", bad(4)),
+    ("identifier-after-button", THREE + "event=button\nevent=identifier\nr=\nid=\n", "answer=button\n" + bad(5)),
+    ("identifier-alone", THREE + "event=identifier\n", bad(4)),
     ("empty-event", THREE + "event=\n", bad(4)),
     ("event-upper-case", THREE + "event=Button\n", bad(4)),
     ("event-longer", THREE + "event=buttons\n", bad(4)),
@@ -226,8 +220,6 @@ MALFORMED = [
     ("wrong-key-for-pairing", THREE + "event=pairing\nlevel=1\n", bad(5)),
     ("wrong-key-for-battery", THREE + "event=battery\non=1\n", bad(5)),
     ("key-upper-case", THREE + "event=read\nNonce=0102030405060708\n", bad(5)),
-    ("id-before-r", THREE + "event=identifier\nid=00\nr=00\n", bad(5)),
-    ("r-twice", THREE + "event=identifier\nr=00\nr=00\n", bad(6)),
     ("settings-swapped", "components=3\npower=-20\nvolume=1\n", bad(1)),
     ("settings-swapped-later", "power=-20\nvolume=1\ncomponents=3\n", bad(2)),
     ("settings-twice", THREE + THREE, bad(4)),
@@ -241,10 +233,10 @@ MALFORMED = [
     ("refused-and-missing", "power=21\ncomponents=3\n", bad(3)),
     # All answers that need no keys, in one file.
     ("all-events", THREE + NONCE + "event=write\ndata=0108000000000000000" + "0\nreach=00\nevent=elapsed\ntenths=11\nevent=button\n"
-     "event=pairing\non=1\nevent=battery\nlevel=2\nevent=key\nbytes=" + "0f" * 16 + "\nevent=identifier\nr=" + "00" * 20
-     + "\nid=" + "00" * 20 + "\nevent=frame\nevent=disconnect\nevent=button\n",
+     "event=pairing\non=1\nevent=battery\nlevel=2\nevent=key\nbytes=" + "0f" * 16
+     + "\nevent=frame\nevent=disconnect\nevent=button\n",
      READ + no("80") + "answer=elapsed\nnotes=0\nclock=1\nanswer=button\nanswer=pairing\nanswer=battery\nanswer=key\n"
-     + no("05") + no("05") + "answer=disconnect\nanswer=button\n"),
+     + no("05") + "answer=disconnect\nanswer=button\n"),
 ]
 
 

@@ -2,7 +2,7 @@
 
 from aes import encrypt
 from model import request
-from session import ANY_TAG, ID, IDENTITY_1, IDENTITY_2, KEY_A, KEY_B, KEY_C, R, STORED, Session, owned, stored
+from session import ANY_TAG, IDENTITY_1, IDENTITY_2, KEY_A, KEY_B, KEY_C, STORED, Session, owned, stored
 
 
 def changed(data, place):
@@ -51,7 +51,6 @@ def key_proofs_wrong_in_one_byte():
     """0x02, 0x03 and 0x08, rightly signed, with a key proof that is wrong in one byte, each in turn."""
     s = owned()
     s.protect(b"\x01")
-    s.identifier(R, ID)
     for place in range(8):
         s.ask(KEY_A, 2, lambda nonce: encrypt(KEY_A, IDENTITY_2) + changed(s.tag.proof(), place), expect=0x80)
         s.ask(KEY_A, 3, lambda nonce: changed(s.tag.proof(), place), expect=0x80)
@@ -198,7 +197,6 @@ def second_of_two_keys():
         s.parameters(key)
         s.status(key)
     s.set_identity(IDENTITY_1)
-    s.identifier(R, ID)
     s.status(KEY_B)
     s.status(KEY_A)
     s.clear()

@@ -130,10 +130,6 @@ def random_session(seed):
             near = [6000, 10239, 10240, dice.randrange(1 << 32), 4294967295]
         s.elapsed(dice.choice(near))
 
-    def lend():
-        sizes = [20] * 12 + [19, 21, 0]
-        s.identifier(dice.randbytes(dice.choice(sizes)), dice.randbytes(dice.choice(sizes)), None)
-
     def key():
         s.key(dice.choice(pool) if chance(0.9) else dice.randbytes(dice.choice((0, 15, 17))), None)
 
@@ -146,7 +142,7 @@ def random_session(seed):
             if chance(0.9):
                 s.disconnect()
     acts = [(ask, 12), (time, 5), (s.button, 1.5), (s.disconnect, 1.5), (lambda: s.pairing(dice.randrange(2)), 0.7),
-            (lambda: s.battery(dice.choice((0, 0, 1, 2, 3, 3, 4, 256)), None), 1.2), (key, 1), (lend, 2.2),
+            (lambda: s.battery(dice.choice((0, 0, 1, 2, 3, 3, 4, 256)), None), 1.2), (key, 1),
             (lambda: s.frame(None), 2.5), (nonce, 1)]
     for _ in range(dice.randrange(10, 45)):
         dice.choices([act for act, _ in acts], [weight for _, weight in acts])[0]()

@@ -4,6 +4,7 @@ import hashlib
 import hmac
 
 from aes import decrypt, encrypt
+from curve import identifier
 
 
 def sha(*parts):
@@ -48,7 +49,6 @@ class Model:
         self.ring = None  # mask, tenths left, nonce
         self.protection = None  # the skip flag
         self.consent = 0
-        self.lent = None  # r, identifier, window
 
     @property
     def nonce(self):
@@ -60,7 +60,7 @@ class Model:
 
     @property
     def window(self):
-        return self.seconds // 1024
+        return self.seconds // 1024 * 1024
 
     def sub_key(self, number):
         return sha(self.identity, bytes([number]))[:8]
@@ -69,7 +69,8 @@ class Model:
         return sha(self.identity, self.nonce)[:8]
 
     def identifier_now(self):
-        return self.lent[1] if self.lent and self.lent[2] == self.window else b""
+        """The identifier of the window and its r, if there is a key in force."""
+        return None if self.identity is None else identifier(self.identity, self.window)
 
     def notice(self, nonce, status, mask=0, left=0):
         return response(self.sub_key(2), nonce, 5, bytes([status, mask]) + left.to_bytes(2, "big"))
@@ -112,7 +113,7 @@ class Model:
             if self.owner is None:
                 self.owner = key
             bits = (self.identity is not None) + 2 * (key == self.owner)
-            return response(key, self.nonce, 1, bytes([bits]) + self.identifier_now())
+            return response(key, self.nonce, 1, bytes([bits]) + (self.identifier_now() or (b"",))[0])
         if ident == 2:
             need(self.owner is not None and right(self.owner))
             if self.identity is None:
@@ -171,7 +172,7 @@ class Model:
     def disconnect(self):
         if self.waiting is not None:
             self.identity, self.waiting = self.waiting, None
-            self.ring = self.lent = None
+            self.ring = None
 
     def elapsed(self, tenths):
         """The tenth at which a ring ended, or 0, and the notice."""
@@ -193,19 +194,14 @@ class Model:
                 raise Refused(4)
             self.keys.append(key)
 
-    def identifier(self, r, ident):
-        if len(r) != 20 or len(ident) != 20:
-            raise Refused(1)
-        if self.identity is None:
-            raise Refused(5)
-        self.lent = r, ident, self.window
-
     def frame(self):
-        if self.identity is None or not self.identifier_now():
+        found = self.identifier_now()
+        if found is None:
             raise Refused(5)
+        ident, r = found
         shield = self.protection is not None
         flags = self.battery * 2 + shield
-        body = bytes([0x16, 0xAA, 0xFE, 0x40 + shield]) + self.lent[1]
+        body = bytes([0x16, 0xAA, 0xFE, 0x40 + shield]) + ident
         if flags:
-            body += bytes([flags ^ sha(self.lent[0])[31]])
+            body += bytes([flags ^ sha(r)[31]])
         return bytes([2, 1, 6, len(body)]) + body

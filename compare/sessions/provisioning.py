@@ -2,7 +2,7 @@
 
 from aes import encrypt
 from model import request, sha
-from session import ID, IDENTITY_1, IDENTITY_2, KEY_A, KEY_B, R, STORED, Session, owned, stored
+from session import IDENTITY_1, IDENTITY_2, KEY_A, KEY_B, STORED, Session, owned, stored
 
 
 @stored
@@ -89,13 +89,12 @@ for POWER in (-100, -1, 0, 20):
 
 @stored
 def clear_and_what_remains():
-    """0x03 forgets keys, sound, protection, consent and identifier; clock, battery, pairing and nonce stay."""
+    """0x03 forgets keys, sound, protection and consent; clock, battery, pairing and nonces stay."""
     s = owned()
     s.elapsed(12347)
     s.battery(2)
     s.pairing(1)
     s.protect(b"\x01")
-    s.identifier(R, ID)
     s.frame()
     s.button()
     s.ring(7, 300)
@@ -107,7 +106,6 @@ def clear_and_what_remains():
     s.elapsed(1, ends=0)
     s.elapsed(300, ends=0)
     s.frame(expect=5)
-    s.identifier(R, ID, expect=5)
     s.key(KEY_A)
     s.write(request(KEY_A, s.tag.nonce, 1), expect=0x80)
     s.parameters(KEY_B, expect=0x80)
@@ -117,7 +115,6 @@ def clear_and_what_remains():
     s.recover()
     s.pairing(0)
     s.recover(expect=0x82)
-    s.identifier(R, ID)
     s.frame()
     s.ring_state()
     return s

@@ -2,7 +2,7 @@
 
 from aes import encrypt
 from model import request, sha
-from session import ANY_TAG, ID, IDENTITY_1, IDENTITY_2, KEY_A, R, Session, owned, stored
+from session import ANY_TAG, IDENTITY_1, IDENTITY_2, KEY_A, Session, owned, stored
 
 
 @stored
@@ -215,7 +215,6 @@ def reach_and_the_other_writes():
     s.button()
     s.ask(s.sub(1), 4, reach=0)
     s.ask(s.sub(3), 7, b"\x01", reach=0)
-    s.identifier(R, ID)
     s.frame()
     s.ask(s.sub(3), 8, lambda nonce: sha(IDENTITY_1, nonce)[:8], reach=0)
     s.ask(KEY_A, 3, lambda nonce: sha(IDENTITY_1, nonce)[:8], reach=0)

@@ -2,7 +2,7 @@
 
 from aes import encrypt
 from model import request
-from session import ID, IDENTITY_1, IDENTITY_2, KEY_A, KEY_B, KEY_C, R, Session, owned, stored
+from session import IDENTITY_1, IDENTITY_2, KEY_A, KEY_B, KEY_C, Session, owned, stored
 
 
 @stored
@@ -161,21 +161,18 @@ def refused_04_keys():
 
 @stored
 def refused_01_and_05():
-    """Battery levels, sizes of a lent identifier before a missing key, no frame."""
+    """Battery levels; no frame without a key in force."""
     s = Session(components=0, volume=0)
     for level in (4, 255, 256, 257, 4294967295):
         s.battery(level, expect=1)
     s.frame(expect=5)
-    s.identifier(R, ID, expect=5)
-    s.identifier(R + b"\x00", ID, expect=1)
-    s.identifier(R, ID[:19], expect=1)
-    s.identifier(b"", b"", expect=1)
     s.key(KEY_A)
     s.status(KEY_A)
-    s.identifier(R, ID, expect=5)
-    s.set_identity(IDENTITY_1)
-    s.identifier(R, ID[:19], expect=1)
     s.frame(expect=5)
-    s.identifier(R, ID)
+    s.offer_identity(IDENTITY_1)
+    s.frame(expect=5)
+    s.disconnect()
     s.frame()
+    s.clear()
+    s.frame(expect=5)
     return s

@@ -1,6 +1,6 @@
 """Stored sessions: ringing and protection."""
 
-from session import ANY_TAG, ID, IDENTITY_2, OK, R, STORED, owned, stored
+from session import ANY_TAG, IDENTITY_2, OK, STORED, owned, stored
 
 
 @stored
@@ -186,7 +186,6 @@ def protection_outlives_a_new_identity_key():
     s.protect(b"\x01")
     old = s.sub(3)
     s.set_identity(IDENTITY_2)
-    s.identifier(R, ID)
     s.frame()
     s.read()
     s.write(bytes([5, 12]) + ANY_TAG + bytes([1, 0, 9, 0]))

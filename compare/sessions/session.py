@@ -85,9 +85,6 @@ class Session:
     def key(self, key, expect=OK):
         self.run("key", ["bytes=" + key.hex()], lambda: self.tag.key(key), expect)
 
-    def identifier(self, r, ident, expect=OK):
-        self.run("identifier", ["r=" + r.hex(), "id=" + ident.hex()], lambda: self.tag.identifier(r, ident), expect)
-
     def frame(self, expect=OK):
         self.run("frame", [], self.tag.frame, expect)
 
@@ -148,8 +145,6 @@ KEY_B = bytes.fromhex("b0b1b2b3b4b5b6b7b8b9babbbcbdbebf")
 KEY_C = bytes.fromhex("c0c1c2c3c4c5c6c7c8c9cacbcccdcecf")
 IDENTITY_1 = bytes(range(0x10, 0x30))
 IDENTITY_2 = bytes(range(0x80, 0xA0))
-R = bytes(range(0x41, 0x55))
-ID = bytes(range(0xE0, 0xF4))
 ANY_TAG = bytes.fromhex("0123456789abcdef")
 
 

@@ -87,7 +87,24 @@ static void recover(void) {
     printf("recovery after a press of the button: the identity key is %s\n", memcmp(back, identity, 32) ? "another" : "the same");
 }
 
-static const uint8_t r[TAG_IDENTIFIER_SIZE] = {1}, id[TAG_IDENTIFIER_SIZE] = {2};
+/* The frame on the air, and what it was made from. A frame takes a multiple on the curve: it is made anew only when one of these has changed. */
+static uint8_t frame[TAG_ANSWER_ROOM], made_from[4 + 1 + TAG_IDENTITY_KEY_SIZE + 2];
+static uint32_t frame_bytes;
+
+static void advertise(void) {
+    uint8_t now[sizeof made_from];
+    memcpy(now, record + TAG_CLOCK_SECONDS_AT, 4);
+    now[2] &= 0xFC, now[3] = 0; /* the window: the seconds with the low 10 bits cleared */
+    memcpy(now + 4, record + TAG_IDENTITY_HELD_AT, 1 + TAG_IDENTITY_KEY_SIZE);
+    now[sizeof now - 2] = record[TAG_PROTECTION_AT], now[sizeof now - 1] = record[TAG_BATTERY_AT];
+    if (frame_bytes && !memcmp(now, made_from, sizeof now)) {
+        printf("the frame on the air stays\n");
+        return;
+    }
+    frame_bytes = expect("frame", tag_frame(record, sizeof record, frame, sizeof frame));
+    memcpy(made_from, now, sizeof now);
+    printf("a new frame of %u bytes\n", (unsigned)frame_bytes);
+}
 
 static void save_and_reload(const char *path) {
     FILE *file = fopen(path, "wb");
@@ -97,21 +114,22 @@ static void save_and_reload(const char *path) {
            (unsigned)TAG_REFUSAL(tag_frame(record, sizeof record, answer, sizeof answer)));
     file = fopen(path, "rb");
     if (!file || fread(record, 1, sizeof record, file) != sizeof record || fclose(file)) exit(1);
-    expect("lend", tag_lend_identifier(record, sizeof record, r, sizeof r, id, sizeof id));
-    printf("record reloaded: a frame of %u bytes\n", (unsigned)expect("frame", tag_frame(record, sizeof record, answer, sizeof answer)));
+    printf("record reloaded\n");
+    advertise();
 }
 
 /* What a returns desk does: reads the frame that the unit sends. */
 static void read_own_frame(void) {
-    uint8_t parts[TAG_PARTS_WITH_R_SIZE];
+    uint8_t parts[TAG_PARTS_SIZE], empty[1];
     uint64_t number;
-    uint32_t bytes;
     expect("battery", tag_battery(record, sizeof record, 2));
-    bytes = expect("frame", tag_frame(record, sizeof record, answer, sizeof answer));
-    expect("frame read", tag_frame_read_with_r(answer, bytes, r, sizeof r, parts, sizeof parts));
-    printf("frame of %u bytes read back: the identifier is %s, protection %u, battery %u\n", (unsigned)bytes,
-           memcmp(parts + TAG_PARTS_IDENTIFIER_AT, id, sizeof id) ? "another" : "the same", parts[TAG_PARTS_PROTECTION_AT], parts[TAG_PARTS_BATTERY_AT]);
-    number = tag_frame_read(answer, bytes - 1, parts, sizeof parts);
+    advertise();
+    expect("state", request(0x01, account_key, 16, empty, 0));
+    expect("frame read", tag_frame_read(frame, frame_bytes, parts, sizeof parts));
+    printf("frame of %u bytes read back: the identifier is %s, protection %u, flags byte %s\n", (unsigned)frame_bytes,
+           memcmp(parts + TAG_PARTS_IDENTIFIER_AT, answer + 11, TAG_IDENTIFIER_SIZE) ? "another" : "that of 0x01", parts[TAG_PARTS_PROTECTION_AT],
+           parts[TAG_PARTS_FLAGS_SHOWN_AT] ? "shown" : "left out");
+    number = tag_frame_read(frame, frame_bytes - 1, parts, sizeof parts);
     printf("the frame cut by a byte: refused with %u at place %u\n", (unsigned)TAG_REFUSAL(number), (unsigned)TAG_PLACE(number));
 }
 
@@ -133,7 +151,17 @@ int main(int count, char **words) {
     expect("button", tag_button(record, sizeof record, answer, sizeof answer));
     printf("button: status %u, %s\n", answer[10], record[TAG_SOUND_KIND_AT] ? "ringing" : "silent");
     recover();
+    advertise();
     save_and_reload(count > 1 ? words[1] : "unit.record");
     read_own_frame();
+    tenths = TAG_ENDED_AT(tag_sleep(record, sizeof record));
+    expect("elapsed", tag_elapsed(record, sizeof record, tenths, answer, sizeof answer));
+    advertise();
+    while (record[TAG_CLOCK_SECONDS_AT + 2] < 4) { /* on to the next window */
+        tenths = TAG_ENDED_AT(tag_sleep(record, sizeof record));
+        expect("elapsed", tag_elapsed(record, sizeof record, tenths, answer, sizeof answer));
+    }
+    printf("the next window:\n");
+    advertise();
     return 0;
 }

@@ -2,12 +2,15 @@
 //! the record, and reads its own frame. It plays the phone too, which makes the requests with the library's own primitives.
 use std::fs;
 
-const RECORD_SIZE: usize = 368;
+const RECORD_SIZE: usize = 323;
 const ANSWER_ROOM: usize = 42;
 const IDENTITY_HELD_AT: usize = 239;
 const WAITING_HELD_AT: usize = 272;
 const SOUND_KIND_AT: usize = 305;
-const PARTS_WITH_R_SIZE: usize = 24;
+const PROTECTION_AT: usize = 318;
+const BATTERY_AT: usize = 322;
+const CLOCK_SECONDS_AT: usize = 7;
+const PARTS_SIZE: usize = 23;
 
 // The declarations of include/tag.h: a slice passes as its pointer and its length.
 extern "C" {
@@ -19,10 +22,8 @@ extern "C" {
     fn tag_sleep(record: *const u8, n: u64) -> u64;
     fn tag_account_key(record: *mut u8, n: u64, key: *const u8, m: u64) -> u64;
     fn tag_disconnect(record: *mut u8, n: u64) -> u64;
-    fn tag_lend_identifier(record: *mut u8, n: u64, r: *const u8, m: u64, id: *const u8, k: u64) -> u64;
     fn tag_frame(record: *mut u8, n: u64, answer: *mut u8, room: u64) -> u64;
     fn tag_frame_read(frame: *const u8, n: u64, parts: *mut u8, room: u64) -> u64;
-    fn tag_frame_read_with_r(frame: *const u8, n: u64, r: *const u8, m: u64, parts: *mut u8, room: u64) -> u64;
     fn tag_battery(record: *mut u8, n: u64, level: u32) -> u64;
     fn tag_sha256(message: *const u8, n: u64, answer: *mut u8, room: u64) -> u64;
     fn tag_hmac_sha256(key: *const u8, n: u64, message: *const u8, m: u64, answer: *mut u8, room: u64) -> u64;
@@ -52,6 +53,9 @@ struct Host {
     nonce: u64,
     /// The parts that can be reached, which a real host asks its radio for.
     reach: u32,
+    /// The frame on the air, and what it was made from.
+    frame: Vec<u8>,
+    made_from: Vec<u8>,
 }
 
 impl Host {
@@ -77,6 +81,31 @@ impl Host {
         let write = [&[id, size], &tag[..8], data].concat();
         let reach = self.reach;
         self.ask(|u, n, a, room| unsafe { tag_write(u, n, write.as_ptr(), write.len() as u64, reach, a, room) })
+    }
+
+    /// A frame takes a multiple on the curve: it is made anew only when the window, the key in force, protection or the battery level has changed.
+    fn advertise(&mut self) -> Result<(), u64> {
+        let mut now = self.record[CLOCK_SECONDS_AT..CLOCK_SECONDS_AT + 4].to_vec();
+        now[2] &= 0xFC; // The window: the seconds with the low 10 bits cleared.
+        now[3] = 0;
+        now.extend_from_slice(&self.record[IDENTITY_HELD_AT..IDENTITY_HELD_AT + 33]);
+        now.extend([self.record[PROTECTION_AT], self.record[BATTERY_AT]]);
+        if now == self.made_from {
+            println!("the frame on the air stays");
+            return Ok(());
+        }
+        let bytes = self.ask(|u, n, a, room| unsafe { tag_frame(u, n, a, room) })?.bytes;
+        self.frame = self.answer[..bytes].to_vec();
+        self.made_from = now;
+        println!("a new frame of {bytes} bytes");
+        Ok(())
+    }
+
+    /// Sleeps until time does something.
+    fn sleep(&mut self) -> Result<(), u64> {
+        let tenths = self.complete(|u, n| unsafe { tag_sleep(u, n) })?.ended as u32;
+        self.ask(|u, n, a, room| unsafe { tag_elapsed(u, n, tenths, a, room) })?;
+        Ok(())
     }
 
     fn ring(&mut self, tenths: u16) -> Result<(), u64> {
@@ -131,9 +160,6 @@ fn recover(host: &mut Host) -> Result<(), u64> {
     Ok(())
 }
 
-const R: [u8; 20] = [1; 20];
-const ID: [u8; 20] = [2; 20];
-
 fn save_and_reload(host: &mut Host, path: &str) -> Result<(), u64> {
     fs::write(path, host.record).expect("the record is saved");
     host.record.fill(0xFF);
@@ -141,28 +167,28 @@ fn save_and_reload(host: &mut Host, path: &str) -> Result<(), u64> {
         println!("after a reboot, with flash that holds no record: the frame is refused with {refusal}");
     }
     host.record.copy_from_slice(&fs::read(path).expect("the record is read"));
-    host.complete(|u, n| unsafe { tag_lend_identifier(u, n, R.as_ptr(), 20, ID.as_ptr(), 20) })?;
-    let frame = host.ask(|u, n, a, room| unsafe { tag_frame(u, n, a, room) })?;
-    println!("record reloaded: a frame of {} bytes", frame.bytes);
-    Ok(())
+    println!("record reloaded");
+    host.advertise()
 }
 
 /// What a returns desk does: reads the frame that the unit sends.
 fn read_own_frame(host: &mut Host) -> Result<(), u64> {
-    let mut parts = [0; PARTS_WITH_R_SIZE];
+    let mut parts = [0; PARTS_SIZE];
     host.complete(|u, n| unsafe { tag_battery(u, n, 2) })?;
-    let frame = host.ask(|u, n, a, room| unsafe { tag_frame(u, n, a, room) })?.bytes as u64;
-    let sent = host.answer.as_ptr();
-    given(unsafe { tag_frame_read_with_r(sent, frame, R.as_ptr(), 20, parts.as_mut_ptr(), parts.len() as u64) })?;
-    let same = if parts[..20] == ID { "the same" } else { "another" };
-    println!("frame of {frame} bytes read back: the identifier is {same}, protection {}, battery {}", parts[20], parts[23]);
+    host.advertise()?;
+    host.request(0x01, &ACCOUNT_KEY, &[])?;
+    let (sent, frame) = (host.frame.as_ptr(), host.frame.len() as u64);
+    given(unsafe { tag_frame_read(sent, frame, parts.as_mut_ptr(), parts.len() as u64) })?;
+    let same = if parts[..20] == host.answer[11..31] { "that of 0x01" } else { "another" };
+    let flags = if parts[21] == 1 { "shown" } else { "left out" };
+    println!("frame of {frame} bytes read back: the identifier is {same}, protection {}, flags byte {flags}", parts[20]);
     let number = unsafe { tag_frame_read(sent, frame - 1, parts.as_mut_ptr(), parts.len() as u64) };
     println!("the frame cut by a byte: refused with {} at place {}", number % 65536 - 256, number / 65536);
     Ok(())
 }
 
 fn session(path: &str) -> Result<(), u64> {
-    let mut host = Host { record: [0; RECORD_SIZE], answer: [0; ANSWER_ROOM], nonce: 0, reach: 0x03 };
+    let mut host = Host { record: [0; RECORD_SIZE], answer: [0; ANSWER_ROOM], nonce: 0, reach: 0x03, frame: vec![], made_from: vec![] };
     provision(&mut host)?;
     host.ring(50)?;
     let tenths = host.complete(|u, n| unsafe { tag_sleep(u, n) })?.ended as u32;
@@ -177,8 +203,16 @@ fn session(path: &str) -> Result<(), u64> {
     host.ask(|u, n, a, room| unsafe { tag_button(u, n, a, room) })?;
     println!("button: status {}, {}", host.answer[10], if host.record[SOUND_KIND_AT] == 1 { "ringing" } else { "silent" });
     recover(&mut host)?;
+    host.advertise()?;
     save_and_reload(&mut host, path)?;
-    read_own_frame(&mut host)
+    read_own_frame(&mut host)?;
+    host.sleep()?;
+    host.advertise()?;
+    while host.record[CLOCK_SECONDS_AT + 2] < 4 {
+        host.sleep()?; // on to the next window
+    }
+    println!("the next window:");
+    host.advertise()
 }
 
 fn main() {

@@ -103,8 +103,9 @@ class Reader:
         self.refuse(line, f"an instruction that is not known: {text}")
 
     def line(self, line, text):
+        bare = re.sub(r'@"[^"]*"', "@name", text)  # a function may be called double or half
         for pattern, why in REFUSED:
-            if re.search(pattern, text):
+            if re.search(pattern, bare):
                 return self.refuse(line, f"{why}: {text.strip()}")
         definition = DEFINITION.match(text)
         if definition:

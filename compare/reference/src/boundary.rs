@@ -14,7 +14,6 @@ pub enum Call {
     Pairing(u32),
     Battery(u32),
     AccountKey(Vec<u8>),
-    Identifier(Vec<u8>, Vec<u8>),
     Frame,
     Sleep,
 }
@@ -32,7 +31,6 @@ impl Call {
             Call::Pairing(_) => "pairing",
             Call::Battery(_) => "battery",
             Call::AccountKey(_) => "key",
-            Call::Identifier(..) => "identifier",
             Call::Frame => "frame",
             Call::Sleep => "sleep",
         }
@@ -91,7 +89,6 @@ pub fn run(call: &Call, record: &mut Vec<u8>, answer: &mut [u8]) -> u64 {
         Call::Pairing(on) => number(tag::pairing(u, *on != 0).map(|_| 0)),
         Call::Battery(level) => number(tag::battery(u, *level).map(|_| 0)),
         Call::AccountKey(key) => number(tag::account_key(u, key).map(|_| 0)),
-        Call::Identifier(r, id) => number(tag::lent_identifier(u, r, id).map(|_| 0)),
         Call::Frame => number(tag::frame(u, answer)),
         Call::Sleep => match tag::sleep(u) {
             Ok(tenths) => ENDED_BASE * tenths as u64,

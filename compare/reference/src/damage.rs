@@ -2,7 +2,7 @@
 //! but well formed. Everything is said of the unit or of a field by its name; only `record` knows the bytes.
 
 use crate::record::{encode, fields, SIZE, VERSION};
-use crate::tag::{new_unit, window_of, Protection, Sound, Unit, NONCES, SLOTS};
+use crate::tag::{new_unit, Protection, Sound, Unit, NONCES, SLOTS};
 
 /// A record: what is special about it, the well formed unit that it was made from, its bytes.
 pub struct Sample {
@@ -52,10 +52,6 @@ pub fn quiet() -> Unit {
     unit.consent = 600;
     unit.pairing = true;
     unit.battery = 3;
-    unit.has_identifier = true;
-    unit.r = [0x72; 20];
-    unit.identifier = [0x69; 20];
-    unit.window = window_of(unit.seconds);
     unit
 }
 
@@ -218,11 +214,10 @@ fn waiting_key(s: &mut Samples) {
     let only_waiting = Sound::Ringing { mask: 1, volume: 0, left: 1 };
     s.broken("ringing-with-a-waiting-key-only", waits(), |u| u.sound = only_waiting);
     s.broken("protection-with-a-waiting-key-only", waits(), |u| u.protection = Protection::On { skip: false });
-    s.broken("identifier-with-a-waiting-key-only", waits(), |u| u.has_identifier = true);
 }
 
 /// An owner and a waiting key, but no key in force.
-fn waits() -> Unit {
+pub fn waits() -> Unit {
     let mut unit = owned();
     unit.has_waiting = true;
     unit.waiting = [0x3a; 32];
@@ -340,31 +335,10 @@ fn protection_and_the_rest(s: &mut Samples) {
     }
 }
 
-/// "a lent identifier with its r and its window (low 10 bits clear), only with an identity key"
-fn identifier(s: &mut Samples) {
-    s.broken("no-identifier-r-first-byte", owned(), |u| u.r[0] = 1);
-    s.broken("no-identifier-r-last-byte", owned(), |u| u.r[19] = 1);
-    s.broken("no-identifier-id-first-byte", owned(), |u| u.identifier[0] = 1);
-    s.broken("no-identifier-id-last-byte", owned(), |u| u.identifier[19] = 1);
-    for window in [1, 1_024, 1 << 31] {
-        s.broken(&format!("no-identifier-window-{window}"), owned(), |u| u.window = window);
-    }
-    s.broken("identifier-without-identity-key", owned(), |u| { u.has_identifier = true; u.identifier = [1; 20] });
-    s.broken("identifier-of-zeros-without-identity-key", owned(), |u| u.has_identifier = true);
-    for low in [1, 2, 512, 1_023] {
-        s.broken(&format!("window-low-bits-{low}"), full(), |u| u.window += low);
-    }
-    s.broken("window-at-the-end", full(), |u| u.window = u32::MAX);
-    for window in [0, 3_072, 5_120, 0xffff_fc00] {
-        s.right(&format!("window-{window}-is-another"), full(), |u| u.window = window);
-    }
-    s.right("identifier-and-r-of-zeros", full(), |u| { u.r = [0; 20]; u.identifier = [0; 20] });
-}
-
 /// Flags that are neither 0 nor 1: where a thing is held, what any odd and what any non-zero number might pass for; where it isn't, what any
 /// even number might.
 fn flags(s: &mut Samples) {
-    for field in ["nonces-live", "owner-kind", "identity-held", "waiting-held", "sound-kind", "pairing", "identifier-held"] {
+    for field in ["nonces-live", "owner-kind", "identity-held", "waiting-held", "sound-kind", "pairing"] {
         s.field(full(), field, &[3]);
         s.field(full(), field, &[255]);
         s.field(fresh(), field, &[2]);
@@ -373,7 +347,7 @@ fn flags(s: &mut Samples) {
 
 pub fn samples() -> Vec<Sample> {
     let mut s = Samples(vec![]);
-    for part in [whole, settings, account_keys, owner, identity_key, waiting_key, nonce, sound, protection_and_the_rest, identifier, flags] {
+    for part in [whole, settings, account_keys, owner, identity_key, waiting_key, nonce, sound, protection_and_the_rest, flags] {
         part(&mut s);
     }
     s.0

@@ -1,4 +1,4 @@
-//! SHA-256 (FIPS 180-4), HMAC (RFC 2104) and AES-128 (FIPS 197), in the order of the standards.
+//! SHA-256 (FIPS 180-4), HMAC (RFC 2104), AES-128 both ways and AES-256 encryption (FIPS 197), in the order of the standards.
 
 // ---------------------------------------------------------------- SHA-256
 
@@ -95,7 +95,7 @@ pub fn hmac_sha256(key: &[u8], message: &[u8]) -> [u8; 32] {
     sha256(&outer)
 }
 
-// ---------------------------------------------------------------- AES-128
+// ---------------------------------------------------------------- AES
 
 /// Product in the byte field, modulo x^8 + x^4 + x^3 + x + 1 (FIPS 197, 4.2).
 pub const fn times(a: u8, b: u8) -> u8 {
@@ -157,16 +157,15 @@ pub static BOX: [u8; 256] = make_box();
 #[allow(long_running_const_eval)]
 pub static INVERSE_BOX: [u8; 256] = make_inverse_box();
 
-/// FIPS 197, 5.2: eleven round keys of sixteen bytes.
-fn round_keys(key: &[u8; 16]) -> [[u8; 16]; 11] {
-    let mut words = [[0u8; 4]; 44];
-    for i in 0..4 {
-        words[i].copy_from_slice(&key[4 * i..4 * i + 4]);
-    }
+/// FIPS 197, 5.2: the round keys of sixteen bytes, 11 for a key of 4 words, 15 for one of 8.
+fn round_keys(key: &[u8]) -> Vec<[u8; 16]> {
+    let key_words = key.len() / 4;
+    let rounds = key_words + 6;
+    let mut words: Vec<[u8; 4]> = key.chunks(4).map(|word| word.try_into().unwrap()).collect();
     let mut constant = 1u8;
-    for i in 4..44 {
+    for i in key_words..4 * (rounds + 1) {
         let mut word = words[i - 1];
-        if i % 4 == 0 {
+        if i % key_words == 0 {
             word = [
                 BOX[word[1] as usize] ^ constant,
                 BOX[word[2] as usize],
@@ -174,18 +173,12 @@ fn round_keys(key: &[u8; 16]) -> [[u8; 16]; 11] {
                 BOX[word[0] as usize],
             ];
             constant = times(constant, 2);
+        } else if key_words > 6 && i % key_words == 4 {
+            word = word.map(|byte| BOX[byte as usize]);
         }
-        for j in 0..4 {
-            words[i][j] = words[i - 4][j] ^ word[j];
-        }
+        words.push(core::array::from_fn(|j| words[i - key_words][j] ^ word[j]));
     }
-    let mut keys = [[0u8; 16]; 11];
-    for round in 0..11 {
-        for column in 0..4 {
-            keys[round][4 * column..4 * column + 4].copy_from_slice(&words[4 * round + column]);
-        }
-    }
-    keys
+    words.chunks(4).map(|columns| columns.concat().try_into().unwrap()).collect()
 }
 
 fn add_round_key(state: [u8; 16], key: &[u8; 16]) -> [u8; 16] {
@@ -225,10 +218,10 @@ fn mix(state: [u8; 16], first_row: [u8; 4]) -> [u8; 16] {
 }
 
 /// FIPS 197, 5.1.
-pub fn aes128_encrypt(key: &[u8; 16], block: &[u8; 16]) -> [u8; 16] {
-    let keys = round_keys(key);
+fn encrypt(keys: &[[u8; 16]], block: &[u8; 16]) -> [u8; 16] {
+    let last = keys.len() - 1;
     let mut state = add_round_key(*block, &keys[0]);
-    for round in 1..10 {
+    for round in 1..last {
         state = substitute(state, &BOX);
         state = shift_rows(state);
         state = mix(state, [2, 3, 1, 1]);
@@ -236,7 +229,15 @@ pub fn aes128_encrypt(key: &[u8; 16], block: &[u8; 16]) -> [u8; 16] {
     }
     state = substitute(state, &BOX);
     state = shift_rows(state);
-    add_round_key(state, &keys[10])
+    add_round_key(state, &keys[last])
+}
+
+pub fn aes128_encrypt(key: &[u8; 16], block: &[u8; 16]) -> [u8; 16] {
+    encrypt(&round_keys(key), block)
+}
+
+pub fn aes256_encrypt(key: &[u8; 32], block: &[u8; 16]) -> [u8; 16] {
+    encrypt(&round_keys(key), block)
 }
 
 /// FIPS 197, 5.3.
@@ -297,6 +298,15 @@ fn block_call(
 /// One block encrypted, as a call.
 pub fn encrypt_call(key: &[u8], block: &[u8], answer: &mut [u8]) -> Result<(), u8> {
     block_call(aes128_encrypt, key, block, answer)
+}
+
+/// One block encrypted with AES-256, as a call: refusal 7 unless the key has 32 bytes, block and answer 16.
+pub fn encrypt256_call(key: &[u8], block: &[u8], answer: &mut [u8]) -> Result<(), u8> {
+    if key.len() != 32 || block.len() != 16 || answer.len() != 16 {
+        return Err(SIZE);
+    }
+    answer.copy_from_slice(&aes256_encrypt(key.try_into().unwrap(), block.try_into().unwrap()));
+    Ok(())
 }
 
 /// One block decrypted, as a call.

@@ -2,8 +2,8 @@
 
 use crate::tag::{Protection, Sound, Unit, NONCES, SLOTS};
 
-pub const VERSION: u8 = 3;
-pub const SIZE: usize = 368;
+pub const VERSION: u8 = 4;
+pub const SIZE: usize = 323;
 
 /// The fields in the record's order, each with its name in the header, in small letters.
 pub fn fields(u: &Unit) -> Vec<(&'static str, Vec<u8>)> {
@@ -42,10 +42,6 @@ pub fn fields(u: &Unit) -> Vec<(&'static str, Vec<u8>)> {
         ("consent", (u.consent as u16).to_be_bytes().to_vec()),
         ("pairing", vec![u.pairing as u8]),
         ("battery", vec![u.battery as u8]),
-        ("identifier-held", vec![u.has_identifier as u8]),
-        ("identifier-r", u.r.to_vec()),
-        ("identifier-id", u.identifier.to_vec()),
-        ("identifier-window", u.window.to_be_bytes().to_vec()),
     ]
 }
 
@@ -117,8 +113,6 @@ pub fn decode(b: &[u8]) -> Option<Unit> {
     };
     let consent = u16::from_be_bytes(rest.bytes()) as u32;
     let (pairing, battery) = (rest.flag()?, rest.byte() as u32);
-    let (has_identifier, r, identifier) = (rest.flag()?, rest.bytes(), rest.bytes());
-    let window = u32::from_be_bytes(rest.bytes());
     if !has_owner && owner != 0 || !ringing && (mask, volume, left) != (0, 0, 0) {
         return None;
     }
@@ -146,9 +140,5 @@ pub fn decode(b: &[u8]) -> Option<Unit> {
         consent,
         pairing,
         battery,
-        has_identifier,
-        r,
-        identifier,
-        window,
     })
 }

@@ -247,11 +247,6 @@ fn event(
             let bytes = lines.hex("bytes")?;
             done(out, "key", tag::account_key(unit, &bytes));
         }
-        b"identifier" => {
-            let r = lines.hex("r")?;
-            let id = lines.hex("id")?;
-            done(out, "identifier", tag::lent_identifier(unit, &r, &id));
-        }
         b"frame" => {
             let result = tag::frame(unit, &mut answer);
             answered(out, "frame", result, &answer);

@@ -1,5 +1,6 @@
 //! The unit record, when it is well formed, and the calls, each in the paper's order of rules.
 
+use crate::identifier::{self, Identifier};
 use crate::primitives::{aes128_decrypt, aes128_encrypt, hmac_sha256, sha256};
 
 pub const NOT_AUTHENTICATED: u8 = 0x80;
@@ -63,10 +64,6 @@ pub struct Unit {
     pub consent: u32,
     pub pairing: bool,
     pub battery: u32,
-    pub has_identifier: bool,
-    pub r: [u8; 20],
-    pub identifier: [u8; 20],
-    pub window: u32,
 }
 
 /// The mask with as many ones as there are components.
@@ -109,10 +106,6 @@ impl Unit {
             consent: 0,
             pairing: false,
             battery: 0,
-            has_identifier: false,
-            r: [0; 20],
-            identifier: [0; 20],
-            window: 0,
         }
     }
 
@@ -215,14 +208,6 @@ impl Unit {
         if self.consent > CONSENT || self.battery > 3 {
             return false;
         }
-        // 9. Lent identifier.
-        if self.has_identifier {
-            if !self.has_identity || self.window % 1024 != 0 {
-                return false;
-            }
-        } else if self.r != [0; 20] || self.identifier != [0; 20] || self.window != 0 {
-            return false;
-        }
         true
     }
 
@@ -273,17 +258,10 @@ impl Unit {
         self.ring_nonce = [0; 8];
     }
 
-    fn drop_identifier(&mut self) {
-        self.has_identifier = false;
-        self.r = [0; 20];
-        self.identifier = [0; 20];
-        self.window = 0;
-    }
-
-    /// The lent identifier, if it stands for the current window.
-    fn current_identifier(&self) -> Option<[u8; 20]> {
-        if self.has_identifier && self.window == window_of(self.seconds) {
-            Some(self.identifier)
+    /// The identifier of the current window, with its r: none without a key in force, or if r is 0.
+    pub fn current_identifier(&self) -> Option<Identifier> {
+        if self.has_identity {
+            identifier::of(&self.identity, window_of(self.seconds))
         } else {
             None
         }
@@ -452,7 +430,7 @@ pub fn write(unit: &mut Unit, data: &[u8], reach: u32, answer: &mut [u8]) -> Res
             }
             let mut answer_data = vec![bits];
             if let Some(identifier) = unit.current_identifier() {
-                answer_data.extend_from_slice(&identifier);
+                answer_data.extend_from_slice(&identifier.id);
             }
             make_answer(&key, &nonce, id, &answer_data)
         }
@@ -740,7 +718,7 @@ pub fn sleep(unit: &Unit) -> Result<u32, u8> {
 
 // ---------------------------------------------------------------- disconnect
 
-/// The connection ended: a waiting key comes into force, sound ends and the identifier is dropped; without one nothing changes.
+/// The connection ended: a waiting key comes into force and sound ends; without one nothing changes.
 pub fn disconnect(unit: &mut Unit) -> Result<(), u8> {
     if !unit.well_formed() {
         return Err(NOT_WELL_FORMED);
@@ -751,7 +729,6 @@ pub fn disconnect(unit: &mut Unit) -> Result<(), u8> {
         unit.has_waiting = false;
         unit.waiting = [0; 32];
         unit.make_silent();
-        unit.drop_identifier();
     }
     Ok(())
 }
@@ -796,25 +773,6 @@ pub fn account_key(unit: &mut Unit, key: &[u8]) -> Result<(), u8> {
     Ok(())
 }
 
-// ---------------------------------------------------------------- lent identifier
-
-pub fn lent_identifier(unit: &mut Unit, r: &[u8], identifier: &[u8]) -> Result<(), u8> {
-    if !unit.well_formed() {
-        return Err(NOT_WELL_FORMED);
-    }
-    if r.len() != 20 || identifier.len() != 20 {
-        return Err(OUT_OF_RANGE);
-    }
-    if !unit.has_identity {
-        return Err(NO_FRAME);
-    }
-    unit.has_identifier = true;
-    unit.r.copy_from_slice(r);
-    unit.identifier.copy_from_slice(identifier);
-    unit.window = window_of(unit.seconds);
-    Ok(())
-}
-
 // ---------------------------------------------------------------- frame
 
 /// The flags byte before the XOR.
@@ -830,9 +788,6 @@ pub fn frame(unit: &mut Unit, answer: &mut [u8]) -> Result<usize, u8> {
     if !unit.well_formed() {
         return Err(NOT_WELL_FORMED);
     }
-    if !unit.has_identity {
-        return Err(NO_FRAME);
-    }
     let identifier = unit.current_identifier().ok_or(NO_FRAME)?;
     let protected = unit.protection != Protection::Off;
     let with_flags = unit.battery != 0 || protected;
@@ -840,9 +795,9 @@ pub fn frame(unit: &mut Unit, answer: &mut [u8]) -> Result<usize, u8> {
     bytes.push(if with_flags { 0x19 } else { 0x18 });
     bytes.extend_from_slice(&[0x16, 0xaa, 0xfe]);
     bytes.push(if protected { 0x41 } else { 0x40 });
-    bytes.extend_from_slice(&identifier);
+    bytes.extend_from_slice(&identifier.id);
     if with_flags {
-        bytes.push(plain_flags(unit.battery, protected) ^ sha256(&unit.r)[31]);
+        bytes.push(plain_flags(unit.battery, protected) ^ sha256(&identifier.r)[31]);
     }
     Ok(put(answer, &bytes))
 }

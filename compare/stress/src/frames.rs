@@ -8,7 +8,7 @@ use reference::damage;
 use reference::frames::{read, read_with_r, render, Parts, Refused};
 use reference::primitives::sha256;
 use reference::record::encode;
-use reference::tag::{self, Protection, Unit, NO_ROOM, ROOM};
+use reference::tag::{Protection, Unit, NO_ROOM, ROOM};
 use std::collections::BTreeMap;
 
 /// Identifier, protection, whether there are flags, the flags byte; with r the battery level too.
@@ -120,21 +120,21 @@ fn sent(comparison: &mut Comparison) {
         let rng = &mut comparison.rng;
         unit.battery = rng.below(4) as u32;
         unit.protection = [Protection::Off, Protection::On { skip: false }, Protection::On { skip: true }][rng.below(3) as usize];
-        unit.seconds = rng.next() as u32;
-        let (r, id) = (rng.bytes(20), rng.bytes(20));
-        tag::lent_identifier(&mut unit, &r, &id).unwrap();
+        // Few windows: the reference takes its time for each.
+        unit.seconds = (rng.below(40) as u32).wrapping_mul(0x1234_5678);
         unit
     };
+    let made = unit.current_identifier().unwrap();
     let mut answer = [0; ROOM];
     let count = ours(&Call::Frame, &mut encode(&unit), &mut answer) as usize;
     let frame = &answer[..count];
     let expected = Parts {
-        identifier: unit.identifier,
+        identifier: made.id,
         protected: unit.protection != Protection::Off,
         flags: frame.get(28).copied(),
     };
-    assert_eq!(read_with_r(frame, &unit.r), Ok((expected, unit.battery as u8)), "the frame of {unit:?}");
-    comparison.each(frame, &unit.r);
+    assert_eq!(read_with_r(frame, &made.r), Ok((expected, unit.battery as u8)), "the frame of {unit:?}");
+    comparison.each(frame, &made.r);
 }
 
 pub fn compare(count: u64, rng: Random) {

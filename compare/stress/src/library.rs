@@ -12,7 +12,6 @@ extern "C" {
     fn tag_pairing(record: *mut u8, n: u64, on: u32) -> u64;
     fn tag_battery(record: *mut u8, n: u64, level: u32) -> u64;
     fn tag_account_key(record: *mut u8, n: u64, key: *const u8, m: u64) -> u64;
-    fn tag_lend_identifier(record: *mut u8, n: u64, r: *const u8, m: u64, id: *const u8, k: u64) -> u64;
     fn tag_frame(record: *mut u8, n: u64, answer: *mut u8, room: u64) -> u64;
     fn tag_frame_read(frame: *const u8, n: u64, parts: *mut u8, room: u64) -> u64;
     fn tag_frame_read_with_r(frame: *const u8, n: u64, r: *const u8, m: u64, parts: *mut u8, room: u64) -> u64;
@@ -33,7 +32,6 @@ pub fn ours(c: &Call, record: &mut [u8], answer: &mut [u8]) -> u64 {
             Call::Pairing(on) => tag_pairing(r, n, *on),
             Call::Battery(level) => tag_battery(r, n, *level),
             Call::AccountKey(b) => tag_account_key(r, n, b.as_ptr(), b.len() as u64),
-            Call::Identifier(x, y) => tag_lend_identifier(r, n, x.as_ptr(), x.len() as u64, y.as_ptr(), y.len() as u64),
             Call::Frame => tag_frame(r, n, a, room),
             Call::Sleep => tag_sleep(r, n),
         }

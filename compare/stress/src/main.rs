@@ -13,6 +13,7 @@ mod sleeping;
 use library::ours;
 use random::Random;
 use reference::boundary::{run, Call, ENDED_BASE, REFUSAL_BASE};
+use reference::primitives::aes128_encrypt;
 use reference::record::{decode, SIZE as RECORD};
 use reference::tag::{self, Unit, ROOM, SLOTS};
 use std::collections::BTreeMap;
@@ -46,7 +47,8 @@ fn some_write(rng: &mut Random, record: &[u8]) -> Vec<u8> {
     let (key, mut data) = match id {
         0 | 1 => (held, vec![]),
         2 => {
-            let mut data = rng.bytes(32);
+            // Of few keys, so that the reference finds most identifiers worked out already.
+            let mut data = encrypted(&owner, [rng.below(6) as u8; 32]);
             if unit.has_identity || rng.one_in(8) {
                 data.extend(&proof);
             }
@@ -90,12 +92,29 @@ fn some_reach(rng: &mut Random, unit: Option<&Unit>) -> u32 {
     }
 }
 
+/// The identity key as 0x02 carries it: two blocks encrypted with the owner key.
+fn encrypted(owner: &[u8], identity: [u8; 32]) -> Vec<u8> {
+    let owner = owner.try_into().unwrap();
+    identity.chunks(16).flat_map(|block| aes128_encrypt(owner, block.try_into().unwrap())).collect()
+}
+
+/// Tenths, mostly too few to leave the window.
+fn some_time(rng: &mut Random) -> u32 {
+    match rng.below(40) {
+        0 => 10_240,
+        1 => u32::MAX,
+        2 => rng.below(20_000) as u32,
+        3 => rng.next() as u32,
+        n => [0, 1, 4, 5, 6, 29, 30, 599, 600, 6000][n as usize % 10],
+    }
+}
+
 fn some_call(rng: &mut Random, record: &[u8]) -> Call {
     let unit = decode(record);
     if unit.as_ref().is_some_and(|u| u.live) && rng.one_in(2) {
         return Call::Write(some_write(rng, record), some_reach(rng, unit.as_ref()));
     }
-    match rng.below(43) {
+    match rng.below(41) {
         0 if rng.one_in(12) => Call::New(rng.below(140) as i32 - 110, rng.below(5) as u32, rng.below(3) as u32),
         0..=9 => {
             let n = if rng.one_in(12) { rng.below(12) as usize } else { 8 };
@@ -104,7 +123,7 @@ fn some_call(rng: &mut Random, record: &[u8]) -> Call {
         }
         10..=23 => Call::Write(some_write(rng, record), some_reach(rng, unit.as_ref())),
         24..=25 => Call::Button,
-        26..=28 => Call::Elapsed([0, 1, 4, 5, 6, 29, 600, 6000, 10240, 4294967295, rng.below(20000) as u32][rng.below(11) as usize]),
+        26..=28 => Call::Elapsed(some_time(rng)),
         29 => Call::Pairing(rng.below(3) as u32),
         30 => Call::Battery(rng.below(6) as u32 * if rng.one_in(8) { 64 } else { 1 }),
         31..=33 => {
@@ -113,12 +132,8 @@ fn some_call(rng: &mut Random, record: &[u8]) -> Call {
             let place = rng.below(SLOTS as u64) as usize;
             Call::AccountKey(unit.filter(|_| rng.one_in(3)).map_or(fresh, |u| u.keys[place].to_vec()))
         }
-        34..=35 => {
-            let (n, m) = if rng.one_in(8) { (rng.below(22) as usize, rng.below(22) as usize) } else { (20, 20) };
-            Call::Identifier(rng.bytes(n), rng.bytes(m))
-        }
-        36..=38 => Call::Disconnect,
-        39 => Call::Sleep,
+        34..=36 => Call::Disconnect,
+        37 => Call::Sleep,
         _ => Call::Frame,
     }
 }

@@ -41,7 +41,8 @@ use Rattle.demands.specs.History.{step, sends}
 use Rattle.demands.specs.Spelled.{keyAtPlace, nonceAtPlace, OwnedWith, NonceSpent, OnlySpends}
 use Rattle.demands.specs.Accepted.{Serves, Open, sent, answer, First, ownerBit, standing, OwnerKnown, Awaits, Cleared, startNotice, stopNotice, failNotice, RingLegal, ringBytes, RingTag, signed as signedTag, skipped, NoneReached, Reached, Stoppable, silent, partReached, Rings, Stopped, Protects, Issued, Accepted}
 use Rattle.demands.proofs.RecordLines.{key-at, nonce-at, among-found}
-use Rattle.demands.proofs.Spelling.{parameters-are, timeout-is, meant, ring-legal, stop-legal, owner-at, claimed-owner, claimed-count, claimed-keys, owner-bit, standing-is, sound-state}
+use Rattle.demands.proofs.EphemeralIdentifier.{standing-is}
+use Rattle.demands.proofs.Spelling.{parameters-are, timeout-is, meant, ring-legal, stop-legal, owner-at, claimed-owner, claimed-count, claimed-keys, owner-bit, sound-state}
 use Rattle.demands.proofs.MaskBits.{reached-is, none-reached, part-reached}
 use Rattle.demands.proofs.Judging.{opened, length-requestTag, length-keyProof, requestOf, judged-as, own-tag}
 
@@ -75,7 +76,7 @@ issued-so nonce u =
       oneMore = λ few. rw (lt-ltb (u .nonces .count) 16 few);
       noMore = λ full. rw full;
       othersBehind = refl;
-      rest = (refl, refl, tt, refl, refl, refl, refl, refl, refl, refl, refl, refl, refl);
+      rest = (refl, refl, tt, refl, refl, refl, refl, refl, refl, refl, refl, refl);
     }
 
 -- The first key of a list that passes a test, where every one before it fails
@@ -126,7 +127,7 @@ spends : (u v : TagUnit) → v .nonces ≡ spent u .nonces → NonceSpent u v
 spends u v e = record { count = rw e; newest = rw e; earlier = rw e; dead = rw e }
 
 pub only-spends : (u : TagUnit) → OnlySpends u (spent u)
-only-spends u = record { nonceSpent = spends u _ refl; rest = (refl, refl, tt, refl, refl, refl, refl, refl, refl, refl, refl, refl, refl) }
+only-spends u = record { nonceSpent = spends u _ refl; rest = (refl, refl, tt, refl, refl, refl, refl, refl, refl, refl, refl, refl) }
 
 owner-known : (u : TagUnit) → wellFormed u ≡ true → (p : ℕ) → p < u .accounts .count
     → OwnerKnown p u (withAccounts (ownedBy (keyAtPlace u p) (u .accounts)) (spent u))
@@ -136,14 +137,14 @@ owner-known u right p held =
       count = claimed-count u (lines u right) p held (u .accounts .owner);
       keys = claimed-keys u (lines u right) p held (u .accounts .owner);
       owner = claimed-owner u (lines u right) p held (u .accounts .owner) refl;
-      rest = (refl, refl, tt, tt, refl, refl, refl, refl, refl, refl, refl, refl, refl);
+      rest = (refl, refl, tt, tt, refl, refl, refl, refl, refl, refl, refl, refl);
     }
 
 -- the first 32 bytes are the two blocks, whatever follows them
 awaits : (u : TagUnit) (key C : List ℕ) → Awaits key C u (awaiting (decryptedKey key C) (spent u))
 unfolding decryptedKey
 awaits u key C =
-    record { nonceSpent = spends u _ refl; waitingIs = refl; rest = (refl, refl, tt, refl, refl, tt, refl, refl, refl, refl, refl, refl, refl) }
+    record { nonceSpent = spends u _ refl; waitingIs = refl; rest = (refl, refl, tt, refl, refl, tt, refl, refl, refl, refl, refl, refl) }
 
 two-blocks : (key C more : List ℕ) → length C ≡ 32 → decryptedKey key (C ++ more) ≡ decryptedKey key C
 unfolding decryptedKey
@@ -166,21 +167,20 @@ clears u =
       silent = (refl, refl);
       unprotected = refl;
       unconsented = refl;
-      unlent = refl;
-      rest = (refl, refl, tt, tt, tt, tt, tt, tt, tt, tt, refl, refl, tt);
+      rest = (refl, refl, tt, tt, tt, tt, tt, tt, tt, tt, refl, refl);
     }
 
 protects-as : (p : Protection) (u : TagUnit) → Protects p u (withProtection p (spent u))
 protects-as p u =
-    record { nonceSpent = spends u _ refl; protectionIs = refl; rest = (refl, refl, tt, refl, refl, refl, refl, refl, tt, refl, refl, refl, refl) }
+    record { nonceSpent = spends u _ refl; protectionIs = refl; rest = (refl, refl, tt, refl, refl, refl, refl, refl, tt, refl, refl, refl) }
 
 stopped : (u : TagUnit) → Stopped u (silenced (spent u))
-stopped u = record { nonceSpent = spends u _ refl; silent = (refl, refl); rest = (refl, refl, tt, refl, refl, refl, tt, tt, refl, refl, refl, refl, refl) }
+stopped u = record { nonceSpent = spends u _ refl; silent = (refl, refl); rest = (refl, refl, tt, refl, refl, refl, tt, tt, refl, refl, refl, refl) }
 
 rings-as : (mask timeout volume : ℕ) (u : TagUnit)
     → Rings mask timeout volume u (withSound (Sound.Ringing mask (cond (eqb (u .settings .selectable) 0) 0 volume) timeout) (u .nonces .newest) (spent u))
 rings-as mask timeout volume u =
-    record { nonceSpent = spends u _ refl; soundIs = refl; nonceKept = refl; rest = (refl, refl, tt, refl, refl, refl, tt, tt, refl, refl, refl, refl, refl) }
+    record { nonceSpent = spends u _ refl; soundIs = refl; nonceKept = refl; rest = (refl, refl, tt, refl, refl, refl, tt, tt, refl, refl, refl, refl) }
 
 -- consent left or pairing on, as a test
 consenting : (consent : ℕ) (pairing : Bool) → (0 < consent) ⊎ (pairing ≡ true) → (ltb 0 consent || pairing) ≡ true
@@ -276,7 +276,7 @@ unfolding byId sizeLegal oneOf legalSizes readState signed answerTag
 serves-state u reach room p ready first left =
     let l = lines u (ready .formed) in
     signed-as u reach room 0x01 8 (keyAtPlace u p) [] refl ready refl refl
-    (rw (first-tagged u 0x01 p first, owner-bit u l p (first .0) (u .accounts .owner) refl, standing-is u l))
+    (rw (first-tagged u 0x01 p first, owner-bit u l p (first .0) (u .accounts .owner) refl, standing-is u))
     left
 
 pub serves-key : (u : TagUnit) (reach room : ℕ) (key C : List ℕ) {Left : TagUnit → Type 0} → Open u reach room → OwnedWith u key → u .identity .held ≡ false

@@ -3,7 +3,7 @@
 -- ring notice; so does an accepted 0x05 that failed, but for its notice. And what time does, with room and without.
 use Prim.Native.Nat.{ℕ, _+_, _≤_}
 use mathlib.Core.Path.{_≡_, refl, sym, ap, _∙_}
-use mathlib.Core.Bool.{Bool, true, false, cond, not, _&&_}
+use mathlib.Core.Bool.{Bool, true, false, cond, not}
 use mathlib.Core.List.{List, [], _∷_}
 use native.Mathlib.Omega.{arith}
 use lib.Dec.{eqb, leb, ltb}
@@ -14,17 +14,18 @@ use Rattle.wire.specs.Signing.{ringId}
 use Rattle.wire.specs.Shape.{parsed}
 use Rattle.unit.specs.declared.TagUnit.{TagUnit}
 use Rattle.unit.specs.declared.Sound.{Sound}
-use Rattle.sizes.specs.Sizes.{accountKeySize, identifierSize, mostKeys, highestBattery}
+use Rattle.sizes.specs.Sizes.{accountKeySize, mostKeys, highestBattery}
 use Rattle.tables.specs.Rows.{among}
 use Rattle.unit.specs.WellFormed.{wellFormed, heldKeys}
 use Rattle.unit.specs.Change.{spent}
-use Rattle.unit.specs.Standing.{stands}
+use Rattle.standing.specs.Standing.{stands}
 use Rattle.unit.specs.Outcome.{Outcome, giving, refusing}
 use Rattle.frame.specs.Frame.{rendered}
 use Rattle.time.specs.Time.{tenths}
 use Rattle.nonces.specs.Nonces.{nonceFits}
-use Rattle.tag.specs.Own.{issuing, pressed, showing, lending, charged, keeping, broughtIn as bringing, disconnected}
-use Rattle.tag.specs.Calls.{Written, Call, read, write, button, pairing, battery, accountKey, disconnect, identifier, frame, own, Act, calls, waits}
+use Rattle.advertising.specs.Showing.{showing}
+use Rattle.tag.specs.Own.{issuing, pressed, charged, keeping, broughtIn as bringing, disconnected}
+use Rattle.tag.specs.Calls.{Written, Call, read, write, button, pairing, battery, accountKey, disconnect, frame, own, Act, calls, waits}
 use Rattle.demands.specs.History.{step}
 use Rattle.demands.specs.Time.{at, noticed}
 use Rattle.demands.specs.Among.{Accepts, accepts, Notifies, notifies, Presses, presses, BringsIn, bringsIn, tenthsIn}
@@ -66,12 +67,6 @@ module _ (u : TagUnit) where
       (λ e.
       tested (Calm u) (among key (heldKeys (u .accounts))) (λ a. record { leaves = search; quiet = refl })
       (λ a. tested (Calm u) (ltb (u .accounts .count) mostKeys) (λ few. record { leaves = search; quiet = refl }) (λ few. calm-refusal 4 u)))
-
-  lending-calm : (r id : List ℕ) → Calm u (lending r id u)
-  unfolding lending
-  lending-calm r id =
-      tested (Calm u) (not (eqb (length r) identifierSize && eqb (length id) identifierSize)) (λ e. calm-refusal 1 u)
-      (λ e. tested (Calm u) (u .identity .held) (λ k. record { leaves = search; quiet = refl }) (λ k. calm-refusal 5 u))
 
   frame-calm : Calm u (showing u)
   unfolding showing rendered
@@ -153,7 +148,6 @@ own-does (pairing on) room u fits formed e = calmly (rw e (record { leaves = sea
 own-does (battery level) room u fits formed e = calmly (rw e (battery-calm u level))
 own-does (accountKey key) room u fits formed e = calmly (rw e (key-calm u key))
 own-does disconnect room u fits formed e = disconnect-does room u formed e
-own-does (identifier r id) room u fits formed e = calmly (rw e (lending-calm u r id))
 own-does frame room u fits formed e = calmly (rw e (frame-calm u))
 
 pub call-does : (c : Call) (room : ℕ) (u : TagUnit) → Does (calls c room) u

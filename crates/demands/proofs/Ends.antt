@@ -27,8 +27,9 @@ use Rattle.ringing.specs.Ringing.{ring, rung, readSound}
 use Rattle.ringing.specs.Protecting.{protect, unprotect}
 use Rattle.requests.specs.Write.{byId, judged, written}
 use Rattle.time.specs.Time.{tenths, afterTenth, endsNext, oneTenth, timeoutNotice}
-use Rattle.tag.specs.Own.{issuing, pressed, charged, keeping, disconnected, lending, showing}
-use Rattle.tag.specs.Calls.{newUnit, Written, read, write, button, pairing, battery, accountKey, disconnect, identifier, frame, own, Act, calls, waits}
+use Rattle.advertising.specs.Showing.{showing}
+use Rattle.tag.specs.Own.{issuing, pressed, charged, keeping, disconnected}
+use Rattle.tag.specs.Calls.{newUnit, Written, read, write, button, pairing, battery, accountKey, disconnect, frame, own, Act, calls, waits}
 use Rattle.demands.specs.History.{step}
 use Rattle.demands.specs.Ends.{Spending, Plain, Ended, OnlyWrites, Made, Demand1, notAuthenticated, invalidValue, noConsent, outOfRange, notWellFormed, wrongNonce, wrongAccountKey, noFrame, noRoom, withAnswer, refusedSpent, refusedSame, made, none as notMade}
 use Rattle.demands.proofs.Choices.{either}
@@ -77,7 +78,7 @@ data Sort (u : TagUnit) : Act → Type 0 where
 ruleset plainly = (gave, refusal, tenths-end, pressed-end, outOfRange, notWellFormed, wrongNonce, wrongAccountKey, noFrame, noRoom)
 
 sort : (a : Act) (u : TagUnit) → Sort u a
-unfolding own issuing charged keeping disconnected lending showing
+unfolding own issuing charged keeping disconnected showing
 sort (calls (write w) room) u = writing w room
 sort (calls (read nonce) room) u = other {a = calls (read nonce) room} (search (plainly, either (Plainly u)) depth 10)
 sort (calls button room) u = other {a = calls button room} (pressed-end (u .sound))
@@ -85,7 +86,6 @@ sort (calls (pairing on) room) u = other {a = calls (pairing on) room} (gave _ _
 sort (calls (battery level) room) u = other {a = calls (battery level) room} (search (plainly, either (Plainly u)) depth 10)
 sort (calls (accountKey key) room) u = other {a = calls (accountKey key) room} (search (plainly, either (Plainly u)) depth 10)
 sort (calls disconnect room) u = other {a = calls disconnect room} (gave _ _)
-sort (calls (identifier r id) room) u = other {a = calls (identifier r id) room} (search (plainly, either (Plainly u)) depth 10)
 sort (calls frame room) u = other {a = calls frame room} (search (plainly, either (Plainly u)) depth 10)
 sort (waits n room) u = other {a = waits n room} (tenths-end n)
 

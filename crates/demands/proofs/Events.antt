@@ -1,8 +1,8 @@
--- The button, pairing, battery, account keys, the disconnect, the lent identifier, the frame and one tenth, in literal numbers: each call passes
+-- The button, pairing, battery, account keys, the disconnect, the frame and one tenth, in literal numbers: each call passes
 -- its guards and does its own, whose definition, opened, is what the literal terms say.
 use Prim.Native.Nat.{ℕ, suc, _+_, _*_, _-_, _/_, _%_, _≤_, _<_}
-use mathlib.Core.Path.{_≡_, refl, sym, _∙_}
-use mathlib.Core.Bool.{Bool, true, false}
+use mathlib.Core.Path.{_≡_, refl, sym, ap, _∙_}
+use mathlib.Core.Bool.{Bool, true, false, not}
 use mathlib.Core.List.{List, [], _∷_, _++_, append-nil}
 use native.Mathlib.Omega.{arith}
 use lib.Dec.{eqb}
@@ -11,7 +11,7 @@ use lib.ListN.{length, getD, replicate}
 use borrow.Author.Tests.{le-leb, lt-leb, lt-ltb, eq-eqb, ne-eqb, eqb-true, eqb-false}
 use Rattle.laws.specs.Answer.{gives}
 use Rattle.laws.specs.Bytes.{bigEndian}
-use Rattle.laws.proofs.Flags.{and-fails-right}
+use Rattle.laws.proofs.Flags.{and-fails-right, both}
 use Rattle.laws.proofs.Same.{differ-same}
 use Rattle.tables.specs.Rows.{among}
 use Rattle.tables.proofs.Rows.{among-place}
@@ -22,17 +22,21 @@ use Rattle.unit.specs.declared.Sound.{Sound}
 use Rattle.unit.specs.WellFormed.{powerLegal, settingsLegal, wellFormed, heldKeys}
 use Rattle.unit.specs.Change.{fresh, withClock, withPairing, withAccounts, withNewKey, withSound, withConsent}
 use Rattle.unit.specs.Outcome.{Outcome, giving, formed}
-use Rattle.unit.proofs.Lines.{lines, held-count, identifier-held}
+use Rattle.unit.proofs.Lines.{lines, held-count}
+use Rattle.standing.specs.Standing.{stands, currentIdentifier, currentR}
 use Rattle.frame.specs.Frame.{rendered, flagsFor}
 use Rattle.time.specs.Time.{clockOn, endsNext, soundOn, ringOn, oneTenth, timeoutNotice, afterTenth, tenths}
-use Rattle.tag.specs.Own.{pressed, charged, keeping, disconnected, lending, protected, showing}
-use Rattle.tag.specs.Calls.{newUnit, Call, button, accountKey, disconnect, frame, own, guarded, call, elapsed, calls, waits, act}
+use Rattle.advertising.specs.Showing.{protected, showing}
+use Rattle.tag.specs.Own.{pressed, charged, keeping, disconnected}
+use Rattle.tag.specs.Calls.{newUnit, button, accountKey, disconnect, frame, own, guarded, call, elapsed, calls, waits, act}
 use Rattle.demands.specs.History.{step}
 use Rattle.demands.specs.Spelled.{keyAtPlace}
-use Rattle.demands.specs.Accepted.{Serves, windowOf, stopNotice}
-use Rattle.demands.specs.Events.{PowerWithin, Fresh, Hushed, Consents, Keeps, BroughtIn, Lends, Same, Shows, masked, TenthPasses, Ticks, Events}
+use Rattle.demands.specs.EphemeralIdentifier.{rOf, identifierOf, cutR}
+use Rattle.demands.specs.Accepted.{Serves, stopNotice}
+use Rattle.demands.specs.Events.{PowerWithin, Fresh, Hushed, Consents, Keeps, BroughtIn, Same, Shows, masked, TenthPasses, Ticks, Events}
 use Rattle.demands.proofs.Judging.{opened}
 use Rattle.demands.proofs.RecordLines.{key-at}
+use Rattle.demands.proofs.EphemeralIdentifier.{identifier-is, cut-is, stands-is}
 use Rattle.demands.proofs.Accepted.{serves}
 
 -- A call without answer bytes on a well-formed unit does its own
@@ -65,7 +69,6 @@ fresh-is power components selectable =
       unconsented = refl;
       unpaired = refl;
       unknown = refl;
-      unlent = refl;
     }
 
 -- The button
@@ -74,14 +77,14 @@ stops-it : (u : TagUnit) (room mask volume left : ℕ) → wellFormed u ≡ true
 unfolding act call guarded own pressed ringNotice signed answerTag derivedKey bigEndian
 stops-it u room mask volume left right fits e =
     serves (opened u room (pressed (u .sound) u) right fits ∙ rw e)
-    (record { silent = (refl, refl); rest = (refl, refl, refl, refl, refl, refl, tt, tt, refl, refl, refl, refl, refl) })
+    (record { silent = (refl, refl); rest = (refl, refl, refl, refl, refl, refl, tt, tt, refl, refl, refl, refl) })
 
 consents : (u : TagUnit) (room : ℕ) → wellFormed u ≡ true → 42 ≤ room → u .sound ≡ Sound.Silent
     → Serves (calls button room) u [] (Consents u)
 unfolding act call guarded own pressed
 consents u room right fits e =
     serves (opened u room (pressed (u .sound) u) right fits ∙ rw e)
-    (record { tenths = refl; rest = (refl, refl, refl, refl, refl, refl, refl, refl, refl, tt, refl, refl, refl) })
+    (record { tenths = refl; rest = (refl, refl, refl, refl, refl, refl, refl, refl, refl, tt, refl, refl) })
 
 -- Account keys: one that stands at no place is not among those held
 not-among : (key : List ℕ) (l : List (List ℕ)) → ((i : ℕ) → i < length l → getD l i [] ≡ key → ⊥) → among key l ≡ false
@@ -115,7 +118,7 @@ added u room key right long few other =
       count = refl;
       owner = refl;
       keys = rw (from, long);
-      rest = (refl, refl, refl, tt, refl, refl, refl, refl, refl, refl, refl, refl, refl);
+      rest = (refl, refl, refl, tt, refl, refl, refl, refl, refl, refl, refl, refl);
     })
 
 -- The disconnect, with a key that waits and without
@@ -127,36 +130,25 @@ brings-it-in u room right held =
       inForce = λ i. record { held = held i; bytes = u .waiting .bytes };
       noneWaits = refl;
       silent = (refl, refl);
-      unlent = refl;
-      rest = (refl, refl, refl, refl, tt, tt, tt, tt, refl, refl, refl, refl, tt);
+      rest = (refl, refl, refl, refl, tt, tt, tt, tt, refl, refl, refl, refl);
     })
 
 brings-nothing-in : (u : TagUnit) (room : ℕ) → wellFormed u ≡ true → u .waiting .held ≡ false → Serves (calls disconnect room) u [] (Same u)
 unfolding act call guarded own disconnected
 brings-nothing-in u room right none = serves (settles u (disconnected u) right ∙ rw none) refl
 
--- The lent identifier, and the frame of one that stands
-lends-it : (u : TagUnit) (room : ℕ) (r id : List ℕ) → wellFormed u ≡ true → length r ≡ 20 → length id ≡ 20 → u .identity .held ≡ true
-    → Serves (calls (Call.identifier r id) room) u [] (Lends r id u)
-unfolding act call guarded own lending
-lends-it u room r id right long₁ long₂ held =
-    serves (settles u (lending r id u) right ∙ rw (eq-eqb (length r) 20 long₁, eq-eqb (length id) 20 long₂, held))
-    (record { identifierIs = refl; rest = (refl, refl, refl, refl, refl, refl, refl, refl, refl, refl, refl, refl, tt) })
-
+-- The frame of an identifier that stands
 abbrev shown : ℕ → Bool → List ℕ → List ℕ → List ℕ
 shown level on r id = rendered 20 id on (flagsFor level on r)
 
 shows-it : (u : TagUnit) (room : ℕ) (level : ℕ) (on : Bool) {bytes : List ℕ} → Shows u room → u .battery ≡ level → protected (u .protection) ≡ on
-    → shown level on (u .identifier .r) (u .identifier .id) ≡ bytes
+    → shown level on (cutR u) (identifierOf u) ≡ bytes
     → Serves (calls frame room) u bytes (Same u)
 unfolding act call guarded own showing
 shows-it u room level on {bytes} s l o e =
-    let is : shown (u .battery) (protected (u .protection)) (u .identifier .r) (u .identifier .id) ≡ bytes = rw (l, o) e in
-    let now = eq-eqb (u .identifier .window) (windowOf (u .clock .seconds)) (s .current) in
-    serves
-    (opened u room (showing u) (s .formed) (s .fits)
-    ∙ rw (identifier-held (lines u (s .formed)) (s .lent), s .lent, now, is))
-    refl
+    let is : shown (u .battery) (protected (u .protection)) (currentR u) (currentIdentifier u) ≡ bytes = rw (cut-is u, identifier-is u, l, o) e in
+    let there : stands u ≡ true = stands-is u ∙ both (s .keyed) (ap not (ne-eqb (rOf u) 0 (s .above))) in
+    serves (opened u room (showing u) (s .formed) (s .fits) ∙ rw (there, is)) refl
 
 -- its bytes: without the flags byte, with it, and under protection
 module _ (r id : List ℕ) where
@@ -210,7 +202,7 @@ passes u room answer ended s with t e =
       tenth = rw e (on .0);
       seconds = rw e (on .1);
       consentLeft = rw e;
-      rest = rw e (refl, tt, refl, refl, refl, refl, tt, tt, refl, tt, refl, refl, refl);
+      rest = rw e (refl, tt, refl, refl, refl, refl, tt, tt, refl, tt, refl, refl);
     }
 
 goes-on : (u : TagUnit) (room : ℕ) (s : Sound) → Ticks u room → endsNext (u .sound) ≡ false → soundOn (u .sound) ≡ s
@@ -234,20 +226,19 @@ events =
       buttonConsents = consents;
       pairingSet = λ u room on right.
           serves (settles u (giving [] (withPairing on u)) right)
-          (record { flag = refl; rest = (refl, refl, refl, refl, refl, refl, refl, refl, refl, refl, tt, refl, refl) });
+          (record { flag = refl; rest = (refl, refl, refl, refl, refl, refl, refl, refl, refl, refl, tt, refl) });
       batterySet = λ u room level right low.
           serves (settles u (charged level u) right ∙ rw (le-leb level 3 low))
-          (record { levelIs = refl; rest = (refl, refl, refl, refl, refl, refl, refl, refl, refl, refl, refl, tt, refl) });
+          (record { levelIs = refl; rest = (refl, refl, refl, refl, refl, refl, refl, refl, refl, refl, refl, tt) });
       keyHeld = held-already;
       keyAdded = added;
       keyBroughtIn = brings-it-in;
       nothingBroughtIn = brings-nothing-in;
-      identifierLent = lends-it;
-      frameBare = λ u room s none off. shows-it u room 0 false s none (rw off) (bare-bytes (u .identifier .r) (u .identifier .id));
+      frameBare = λ u room s none off. shows-it u room 0 false s none (rw off) (bare-bytes (cutR u) (identifierOf u));
       frameFlagged = λ u room s more off.
-          shows-it u room (u .battery) false s refl (rw off) (flagged-bytes (u .identifier .r) (u .identifier .id) (u .battery) more);
+          shows-it u room (u .battery) false s refl (rw off) (flagged-bytes (cutR u) (identifierOf u) (u .battery) more);
       frameProtected = λ u room skip s on.
-          shows-it u room (u .battery) true s refl (rw on) (protected-bytes (u .identifier .r) (u .identifier .id) (u .battery));
+          shows-it u room (u .battery) true s refl (rw on) (protected-bytes (cutR u) (identifierOf u) (u .battery));
       tenthSilent = λ u room t e. goes-on u room Sound.Silent t (rw e) (rw e);
       tenthRinging = λ u room mask volume left t e more. goes-on u room (Sound.Ringing mask volume (left - 1)) t (rw (e, lt-leb left 1 more)) (rw e);
       tenthEnds = λ u room mask volume t e. ends u room t (rw e);

@@ -2,7 +2,7 @@
 -- is a change whose condition the call has tested.
 use Prim.Native.Nat.{ℕ}
 use mathlib.Core.Path.{_≡_, sym, subst}
-use mathlib.Core.Bool.{true, not, _&&_}
+use mathlib.Core.Bool.{true, not}
 use mathlib.Core.List.{List}
 use native.Mathlib.Omega.{arith}
 use lib.Dec.{eqb, leb, ltb}
@@ -11,17 +11,18 @@ use borrow.Author.Tests.{ltb-true, leb-true, eqb-true, not-false}
 use Rattle.unit.specs.declared.TagUnit.{TagUnit}
 use Rattle.unit.specs.declared.Identity.{Identity}
 use Rattle.unit.specs.declared.Sound.{Sound}
-use Rattle.sizes.specs.Sizes.{answerRoom, mostKeys, highestBattery, fullConsent, accountKeySize, identifierSize, window}
+use Rattle.sizes.specs.Sizes.{answerRoom, mostKeys, highestBattery, fullConsent, accountKeySize}
 use Rattle.tables.specs.Rows.{among}
 use Rattle.unit.specs.WellFormed.{wellFormed, heldKeys}
-use Rattle.unit.specs.Change.{identityKey, noIdentifier, withIdentity, withIdentifier, silenced}
+use Rattle.unit.specs.Change.{identityKey, withIdentity, silenced}
 use Rattle.unit.specs.Outcome.{Outcome, refusing, formed as guarded, answering}
-use Rattle.unit.specs.Standing.{stands}
+use Rattle.standing.specs.Standing.{stands}
 use Rattle.unit.proofs.Lines.{lines, waiting-owned}
-use Rattle.unit.proofs.Kept.{fresh-formed, issued-kept, consent-kept, silenced-kept, pairing-kept, battery-kept, accounts-kept, identity-kept, unawaited-kept, unlent-kept, lent-kept, window-clear}
+use Rattle.unit.proofs.Kept.{fresh-formed, issued-kept, consent-kept, silenced-kept, pairing-kept, battery-kept, accounts-kept, identity-kept, unawaited-kept}
 use Rattle.nonces.specs.Nonces.{nonceFits}
-use Rattle.tag.specs.Own.{issuing, pressed, charged, keeping, broughtIn, disconnected, lending, showing}
-use Rattle.tag.specs.Calls.{read, write, button, pairing, battery, accountKey, disconnect, identifier, frame, own, Act, calls, waits}
+use Rattle.advertising.specs.Showing.{showing}
+use Rattle.tag.specs.Own.{issuing, pressed, charged, keeping, broughtIn, disconnected}
+use Rattle.tag.specs.Calls.{read, write, button, pairing, battery, accountKey, disconnect, frame, own, Act, calls, waits}
 use Rattle.demands.specs.History.{step}
 use Rattle.demands.specs.Formed.{Formed}
 use Rattle.demands.proofs.Choices.{tested}
@@ -75,22 +76,13 @@ module _ (u : TagUnit) (w : wellFormed u ≡ true) where
   brought-in : u .waiting .held ≡ true → wellFormed (broughtIn u) ≡ true
   brought-in held =
       let is : identityKey (u .waiting .bytes) ≡ u .waiting = λ i. record { held = sym held i; bytes = u .waiting .bytes } in
-      let hushed = withIdentifier noIdentifier (silenced u) in
-      let inForce = identity-kept hushed (unlent-kept (silenced u) (silenced-kept u w)) (u .waiting .bytes) (waiting-owned (lines u w) held) in
+      let hushed = silenced u in
+      let inForce = identity-kept hushed (silenced-kept u w) (u .waiting .bytes) (waiting-owned (lines u w) held) in
       unawaited-kept (withIdentity (u .waiting) hushed) (subst (λ (k : Identity). wellFormed (withIdentity k hushed) ≡ true) is inForce)
 
   disconnected-keeps : Keeps (disconnected u)
   unfolding disconnected
   disconnected-keeps = keeps (tested (λ (v : TagUnit). wellFormed v ≡ true) (u .waiting .held) brought-in (λ none. w))
-
-  lending-keeps : (r id : List ℕ) → Keeps (lending r id u)
-  unfolding lending
-  lending-keeps r id =
-      tested Keeps (not (eqb (length r) identifierSize && eqb (length id) identifierSize)) (λ e. refusal)
-      (λ e.
-      tested Keeps (u .identity .held)
-      (λ held. keeps (lent-kept u w r id (window (u .clock .seconds)) held (window-clear (u .clock .seconds))))
-      (λ none. refusal))
 
   showing-keeps : Keeps (showing u)
   unfolding showing
@@ -105,7 +97,6 @@ module _ (u : TagUnit) (w : wellFormed u ≡ true) where
   own-keeps (calls (battery level) room) = battery-keeps level
   own-keeps (calls (accountKey key) room) = keeping-keeps key
   own-keeps (calls disconnect room) = disconnected-keeps
-  own-keeps (calls (identifier r id) room) = lending-keeps r id
   own-keeps (calls frame room) = showing-keeps
   own-keeps (waits n room) = keeps (tenths-kept n u w)
 

@@ -12,7 +12,7 @@ use Rattle.sizes.specs.Sizes.{answerRoom}
 use Rattle.unit.specs.declared.TagUnit.{TagUnit}
 use Rattle.unit.specs.WellFormed.{wellFormed}
 use Rattle.unit.specs.Outcome.{refusing, formed, answering}
-use Rattle.tag.specs.Calls.{read, write, button, pairing, battery, accountKey, disconnect, identifier, frame, Act, calls, waits}
+use Rattle.tag.specs.Calls.{read, write, button, pairing, battery, accountKey, disconnect, frame, Act, calls, waits}
 use Rattle.demands.specs.History.{step}
 use Rattle.demands.specs.RefusalOrder.{Lent, toRead, toWrite, toButton, toFrame, toElapsed}
 use Rattle.demands.proofs.Guards.{roomFor, ownOf, act-guarded}
@@ -33,7 +33,6 @@ short-lent (calls (pairing on) room) h = absurd (omega arith)
 short-lent (calls (battery level) room) h = absurd (omega arith)
 short-lent (calls (accountKey key) room) h = absurd (omega arith)
 short-lent (calls disconnect room) h = absurd (omega arith)
-short-lent (calls (identifier r id) room) h = absurd (omega arith)
 short-lent (calls frame room) h = toFrame
 short-lent (waits n room) h = toElapsed
 

@@ -15,6 +15,7 @@ pub mod Course
 pub mod Time
 pub mod Judging
 pub mod Spelling
+pub mod EphemeralIdentifier
 pub mod Accepted
 pub mod Events
 pub mod WritesOnKeys

@@ -2,7 +2,7 @@
 -- disconnect brings a waiting key in or does nothing, and the rest leave all of it alone.
 use Prim.Native.Nat.{ℕ, zero, suc, _<_}
 use mathlib.Core.Path.{_≡_, refl, _∙_}
-use mathlib.Core.Bool.{true, false, not, _&&_}
+use mathlib.Core.Bool.{true, false, not}
 use mathlib.Core.List.{List, []}
 use lib.Dec.{eqb, leb, ltb}
 use lib.ListN.{length}
@@ -10,15 +10,16 @@ use borrow.Author.Tests.{eqb-true, ltb-true, not-false}
 use Rattle.laws.specs.Answer.{Result}
 use Rattle.unit.specs.declared.TagUnit.{TagUnit}
 use Rattle.unit.specs.declared.Sound.{Sound}
-use Rattle.sizes.specs.Sizes.{accountKeySize, identifierSize, mostKeys, highestBattery}
+use Rattle.sizes.specs.Sizes.{accountKeySize, mostKeys, highestBattery}
 use Rattle.tables.specs.Rows.{among}
 use Rattle.unit.specs.WellFormed.{heldKeys}
-use Rattle.unit.specs.Standing.{stands}
+use Rattle.standing.specs.Standing.{stands}
 use Rattle.unit.specs.Change.{withAccounts, withNewKey}
 use Rattle.unit.specs.Outcome.{Outcome, giving}
 use Rattle.time.specs.Time.{endsNext, ringOn, oneTenth, afterTenth, tenths}
-use Rattle.tag.specs.Own.{pressed, showing, lending, charged, keeping, broughtIn, disconnected}
-use Rattle.tag.specs.Calls.{Written, read, write, button, pairing, battery, accountKey, disconnect, identifier, frame, own, Act, calls, waits}
+use Rattle.advertising.specs.Showing.{showing}
+use Rattle.tag.specs.Own.{pressed, charged, keeping, broughtIn, disconnected}
+use Rattle.tag.specs.Calls.{Written, read, write, button, pairing, battery, accountKey, disconnect, frame, own, Act, calls, waits}
 use Rattle.demands.proofs.Guards.{ownOf}
 use Rattle.demands.proofs.WritesOnKeys.{Alone, alone, choose}
 
@@ -60,12 +61,6 @@ unfolding pressed
 pressed-alone Sound.Silent u = search
 pressed-alone (Sound.Ringing mask volume left) u = search
 
-lending-alone : (r id : List ℕ) (u : TagUnit) → Alone u (lending r id u .unit)
-unfolding lending
-lending-alone r id u =
-    choose (Leaves u) (not (eqb (length r) identifierSize && eqb (length id) identifierSize)) (λ e. alone u)
-    (λ e. choose (Leaves u) (u .identity .held) (λ k. search) (λ k. alone u))
-
 battery-alone : (level : ℕ) (u : TagUnit) → Leaves u (charged level u)
 unfolding charged
 battery-alone level u = choose (Leaves u) (leb level highestBattery) (λ e. search) (λ e. alone u)
@@ -84,7 +79,6 @@ kind (calls button room) = 4
 kind (calls frame room) = 4
 kind (calls (pairing on) room) = 4
 kind (calls (battery level) room) = 4
-kind (calls (identifier r id) room) = 4
 kind (waits n room) = 4
 
 pub data Sorted : Act → Type 0 where
@@ -104,7 +98,6 @@ sorted (calls button room) = aside {a = calls button room} refl (λ u. pressed-a
 sorted (calls frame room) = aside {a = calls frame room} refl showing-alone
 sorted (calls (pairing on) room) = aside {a = calls (pairing on) room} refl (λ u. search)
 sorted (calls (battery level) room) = aside {a = calls (battery level) room} refl (battery-alone level)
-sorted (calls (identifier r id) room) = aside {a = calls (identifier r id) room} refl (lending-alone r id)
 sorted (waits n room) = aside {a = waits n room} refl (tenths-alone n)
 
 -- What became of a lent account key

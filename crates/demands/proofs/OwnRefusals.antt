@@ -1,6 +1,6 @@
 -- Each call's own refusals: its checks are gone through, each that fails is one of the list, and each of the list fails a check. A write's are
 -- `Refused`.
-use Prim.Native.Nat.{ℕ, _*_, _/_, _≤_, _<_}
+use Prim.Native.Nat.{ℕ, _≤_, _<_}
 use mathlib.Core.Path.{_≡_, refl, sym, ap, _∙_}
 use mathlib.Core.Bool.{true, false, not, _&&_}
 use mathlib.Core.List.{List, []}
@@ -15,23 +15,25 @@ use Rattle.laws.proofs.Flags.{true-or-false, and-fails-left, and-fails-right, a
 use Rattle.laws.proofs.Same.{same-equal, equal-same}
 use Rattle.tables.specs.Rows.{among}
 use Rattle.tables.proofs.Rows.{among-place}
-use Rattle.sizes.specs.Sizes.{window}
 use Rattle.unit.specs.declared.TagUnit.{TagUnit}
 use Rattle.unit.specs.declared.Sound.{Sound}
 use Rattle.unit.specs.WellFormed.{wellFormed, heldKeys}
-use Rattle.unit.specs.Standing.{stands}
+use Rattle.standing.specs.Standing.{stands}
 use Rattle.unit.specs.Outcome.{Outcome, refusing}
 use Rattle.unit.proofs.Lines.{held-count}
 use Rattle.unit.specs.Ringable.{inside}
 use Rattle.requests.specs.Write.{written}
 use Rattle.nonces.specs.Nonces.{issuedNonces, nonceFits}
 use Rattle.nonces.proofs.Lines.{issued-count}
-use Rattle.tag.specs.Own.{issuing, pressed, charged, keeping, disconnected, lending, showing}
-use Rattle.tag.specs.Calls.{Written, read, write, button, pairing, battery, accountKey, disconnect, identifier, frame, own as ownCall, Act, calls, waits}
+use Rattle.advertising.specs.Showing.{showing}
+use Rattle.tag.specs.Own.{issuing, pressed, charged, keeping, disconnected}
+use Rattle.tag.specs.Calls.{Written, read, write, button, pairing, battery, accountKey, disconnect, frame, own as ownCall, Act, calls, waits}
 use Rattle.demands.specs.History.{step}
 use Rattle.demands.specs.Spelled.{keyAtPlace, nonceAtPlace}
 use Rattle.demands.specs.RecordLines.{RecordLines}
-use Rattle.demands.specs.RefusalOrder.{Own, nonceLength, nonceHeld, reachOutside, ofWrite, batteryLevel, keyLength, sixthKey, rLength, identifierLength, lentWithoutKey, frameWithoutKey, frameWithoutIdentifier, otherWindow}
+use Rattle.demands.specs.RefusalOrder.{Own, nonceLength, nonceHeld, reachOutside, ofWrite, batteryLevel, keyLength, sixthKey, frameWithoutKey, frameOfZero}
+use Rattle.demands.specs.EphemeralIdentifier.{rOf}
+use Rattle.demands.proofs.EphemeralIdentifier.{stands-is}
 use Rattle.demands.proofs.Choices.{tested}
 use Rattle.demands.proofs.Ends.{tenths-give}
 use Rattle.demands.proofs.Guards.{roomFor, ownOf}
@@ -46,9 +48,6 @@ use Rattle.demands.proofs.MaskBits.{inside-bits, outside-bit, bit-outsi
 data Found (u : TagUnit) (a : Act) : Outcome → Type 0 where
   answered : {o : Outcome} (answer : List ℕ) → o .result ≡ gives answer → Found u a o
   refused : {n : ℕ} → Own u a n → Found u a (refusing n u)
-
-window-is : (seconds : ℕ) → window seconds ≡ 1024 * (seconds / 1024)
-window-is seconds = omega arith
 
 module _ (u : TagUnit) (l : RecordLines u) where
   read-found : (nonce : List ℕ) (room : ℕ) → Found u (calls (read nonce) room) (issuing nonce u)
@@ -92,35 +91,14 @@ module _ (u : TagUnit) (l : RecordLines u) where
       tested P (among key (heldKeys (u .accounts))) (λ h. answered _ refl)
       (λ h. tested P (ltb (u .accounts .count) 5) (λ k. answered _ refl) (λ k. refused (full key room h k))))
 
-  identifier-found : (r id : List ℕ) (room : ℕ) → Found u (calls (identifier r id) room) (lending r id u)
-  unfolding lending
-  identifier-found r id room =
-      let P = Found u (calls (identifier r id) room) in
-      tested P (not (eqb (length r) 20 && eqb (length id) 20)) (λ e. refused (go (one-fails _ _ (not-true _ e))))
-      (λ e.
-      let sizes = not-false _ e in
-      tested P (u .identity .held) (λ h. answered _ refl)
-      (λ h. refused (lentWithoutKey (eqb-true _ _ (and-left _ _ sizes)) (eqb-true _ _ (and-right (eqb (length r) 20) _ sizes)) h)))
-    where
-      go : (eqb (length r) 20 ≡ false) ⊎ ((eqb (length r) 20 ≡ true) × (eqb (length id) 20 ≡ false)) → Own u (calls (identifier r id) room) 1
-      go (inl e) = rLength (eqb-false _ _ e)
-      go (inr e) = identifierLength (eqb-false _ _ (e .1))
-
   frame-found : (room : ℕ) → Found u (calls frame room) (showing u)
   unfolding showing
   frame-found room =
-      tested (Found u (calls frame room)) (stands u) (λ e. answered _ refl) (λ e. refused (go (one-fails _ _ e)))
+      tested (Found u (calls frame room)) (stands u) (λ e. answered _ refl) (λ e. refused (go (one-fails _ _ (sym (stands-is u) ∙ e))))
     where
-      last : (u .identifier .held ≡ false) ⊎ ((u .identifier .held ≡ true) × (eqb (u .identifier .window) (window (u .clock .seconds)) ≡ false))
-          → Own u (calls frame room) 5
-      last (inl e) = frameWithoutIdentifier e
-      last (inr e) = otherWindow (λ k. eqb-false _ _ (e .1) (k ∙ sym (window-is (u .clock .seconds))))
-
-      go : (u .identity .held ≡ false)
-          ⊎ ((u .identity .held ≡ true) × (u .identifier .held && eqb (u .identifier .window) (window (u .clock .seconds)) ≡ false))
-          → Own u (calls frame room) 5
+      go : (u .identity .held ≡ false) ⊎ ((u .identity .held ≡ true) × (not (eqb (rOf u) 0) ≡ false)) → Own u (calls frame room) 5
       go (inl e) = frameWithoutKey e
-      go (inr e) = last (one-fails _ _ (e .1))
+      go (inr e) = frameOfZero (eqb-true _ _ (not-false _ (e .1)))
 
 -- A write with a reach that is outside
 outside : (u : TagUnit) (w : List ℕ) (reach : ℕ) → inside reach (u .settings .components) ≡ false → written u w reach ≡ refusing 1 u
@@ -156,7 +134,6 @@ module _ (u : TagUnit) (n : ℕ) (l : RecordLines u) (right : wellFormed u ≡ t
   own-only (calls (battery level) room) fits e = from-found n (battery-found u l level room) e
   own-only (calls (accountKey key) room) fits e = from-found n (key-found u l key room) e
   own-only (calls disconnect room) fits e = let z : _≡_ {A = ℕ} 0 1 = cc in absurd (omega arith)
-  own-only (calls (identifier r id) room) fits e = from-found n (identifier-found u l r id room) e
   own-only (calls frame room) fits e = from-found n (frame-found u l room) e
   own-only (waits t room) fits e =
       let g = tenths-give t u in
@@ -202,14 +179,6 @@ module _ (u : TagUnit) (l : RecordLines u) where
       let most : ltb (u .accounts .count) 5 ≡ false = le-ltb (u .accounts .count) 5 (omega arith) in
       rw (absent, most) (same-either (not (eqb (length key) 16)) (refusing 4 u))
 
-  wrong-sizes : (r id : List ℕ) → eqb (length r) 20 && eqb (length id) 20 ≡ false → lending r id u ≡ refusing 1 u
-  unfolding lending
-  wrong-sizes r id e = rw e
-
-  lent-keyless : (r id : List ℕ) → length r ≡ 20 → length id ≡ 20 → u .identity .held ≡ false → lending r id u ≡ refusing 5 u
-  unfolding lending
-  lent-keyless r id m n e = rw (eq-eqb (length r) 20 m, eq-eqb (length id) 20 n, e)
-
   no-frame : stands u ≡ false → showing u ≡ refusing 5 u
   unfolding showing
   no-frame e = rw e
@@ -224,15 +193,6 @@ module _ (u : TagUnit) (l : RecordLines u) where
   own-refuses {a} (batteryLevel {level} h) right fits = rw (through a u fits right, too-high level h)
   own-refuses {a} (keyLength {key} h) right fits = rw (through a u fits right, not-sixteen key h)
   own-refuses {a} (sixthKey {key} count new) right fits = rw (through a u fits right, no-room-for key count new)
-  own-refuses {a} (rLength {r} {id} h) right fits = rw (through a u fits right, wrong-sizes r id (and-fails-left _ (ne-eqb (length r) 20 h)))
-  own-refuses {a} (identifierLength {r} {id} h) right fits =
-      rw (through a u fits right, wrong-sizes r id (and-fails-right (eqb (length r) 20) (ne-eqb (length id) 20 h)))
-  own-refuses {a} (lentWithoutKey {r} {id} m n e) right fits = rw (through a u fits right, lent-keyless r id m n e)
-  own-refuses {a} (frameWithoutKey e) right fits = rw (through a u fits right, no-frame (and-fails-left _ e))
-  own-refuses {a} (frameWithoutIdentifier e) right fits =
-      rw (through a u fits right, no-frame (and-fails-right (u .identity .held) (and-fails-left _ e)))
-  own-refuses {a} (otherWindow h) right fits =
-      rw (
-        through a u fits right,
-        no-frame (and-fails-right (u .identity .held) (and-fails-right (u .identifier .held) (ne-eqb _ _ (λ k. h (k ∙ window-is (u .clock .seconds)))))),
-      )
+  own-refuses {a} (frameWithoutKey e) right fits = rw (through a u fits right, no-frame (stands-is u ∙ and-fails-left _ e))
+  own-refuses {a} (frameOfZero e) right fits =
+      rw (through a u fits right, no-frame (stands-is u ∙ and-fails-right (u .identity .held) (ap not (eq-eqb (rOf u) 0 e))))

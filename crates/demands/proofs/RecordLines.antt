@@ -18,13 +18,13 @@ use Rattle.laws.proofs.Same.{same-equal}
 use Rattle.tables.specs.Rows.{among, distinct}
 use Rattle.tables.proofs.Rows.{row-at, among-place}
 use Rattle.unit.specs.Ringable.{inside}
-use Rattle.unit.specs.WellFormed.{powerLegal, heldKeys, placeLegal, ownerLegal, owned, identityLegal, soundLegal, protectionLegal, identifierLegal}
+use Rattle.unit.specs.WellFormed.{powerLegal, heldKeys, placeLegal, ownerLegal, owned, identityLegal, soundLegal, protectionLegal}
 use Rattle.unit.specs.declared.TagUnit.{TagUnit}
 use Rattle.unit.specs.declared.Owner.{Owner}
 use Rattle.unit.specs.declared.Identity.{Identity}
 use Rattle.unit.specs.declared.Sound.{Sound}
 use Rattle.unit.specs.declared.Protection.{Protection}
-use Rattle.unit.proofs.Lines.{Lines, lines, formed, held-count, owner-held, identity-owned, waiting-owned, ring-held, ring-legal, silent-zeros, protection-held, identifier-held, identifier-window}
+use Rattle.unit.proofs.Lines.{Lines, lines, formed, held-count, owner-held, identity-owned, waiting-owned, ring-held, ring-legal, silent-zeros, protection-held}
 use Rattle.nonces.specs.Nonces.{issuedNonces}
 use Rattle.nonces.proofs.Lines.{NoncesLines, nonces-lines, nonces-legal, issued-count}
 use Rattle.demands.specs.Spelled.{keyAtPlace, nonceAtPlace}
@@ -138,11 +138,6 @@ module _ (u : TagUnit) (l : Lines u) where
   unfolding identityLegal
   identity-absent k legal e = rw e at legal
 
-  identifier-absent : u .identifier .held ≡ false
-      → allZero (u .identifier .r) && (allZero (u .identifier .id) && eqb (u .identifier .window) 0) ≡ true
-  unfolding identifierLegal
-  identifier-absent e = rw e at (l .identifier)
-
   lines-met : RecordLines u
   lines-met =
       record {
@@ -172,12 +167,6 @@ module _ (u : TagUnit) (l : Lines u) where
         protected = λ skip e. protection-held l e;
         consent = l .consent;
         battery = l .battery;
-        identifierKeyed = identifier-held l;
-        identifierWindow = identifier-window l;
-        noR = λ e. zeros-at _ (and-left _ _ (identifier-absent e));
-        noIdentifier = λ e. zeros-at _ (and-left _ _ (and-right (allZero (u .identifier .r)) _ (identifier-absent e)));
-        noWindow = λ e.
-            eqb-true _ _ (and-right (allZero (u .identifier .id)) _ (and-right (allZero (u .identifier .r)) _ (identifier-absent e)));
       }
 
 -- And back
@@ -239,15 +228,8 @@ module _ (u : TagUnit) (l : RecordLines u) where
   protection-legal Protection.Off e = refl
   protection-legal (Protection.On skip) e = l .protected skip e
 
-  identifier-legal : (b : Bool) → u .identifier .held ≡ b
-      → (b && (u .identity .held && eqb (u .identifier .window % 1024) 0))
-      || (not b && (allZero (u .identifier .r) && (allZero (u .identifier .id) && eqb (u .identifier .window) 0)))
-      ≡ true
-  identifier-legal true e = or-left false (both (l .identifierKeyed e) (eq-eqb _ _ (l .identifierWindow e)))
-  identifier-legal false e = both (zeros-all _ (l .noR e)) (both (zeros-all _ (l .noIdentifier e)) (eq-eqb _ _ (l .noWindow e)))
-
   lines-back : Lines u
-  unfolding ownerLegal identifierLegal
+  unfolding ownerLegal
   lines-back =
       record {
         settings =
@@ -276,7 +258,6 @@ module _ (u : TagUnit) (l : RecordLines u) where
         protection = protection-legal (u .protection) refl;
         consent = l .consent;
         battery = l .battery;
-        identifier = identifier-legal (u .identifier .held) refl;
       }
 
 pub well-formed-exactly : WellFormedExactly

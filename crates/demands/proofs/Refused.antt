@@ -24,7 +24,7 @@ pub only-spends : (u : TagUnit) → OnlySpends u (spent u)
 only-spends u =
     record {
       nonceSpent = record { count = refl; newest = refl; earlier = refl; dead = refl };
-      rest = (refl, refl, tt, refl, refl, refl, refl, refl, refl, refl, refl, refl, refl);
+      rest = (refl, refl, tt, refl, refl, refl, refl, refl, refl, refl, refl, refl);
     }
 
 -- The write of these bytes

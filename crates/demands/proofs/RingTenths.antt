@@ -36,7 +36,6 @@ pub record Aside (u v : TagUnit) : Type 0 where
   pub protection : v .protection ≡ u .protection
   pub pairing : v .pairing ≡ u .pairing
   pub battery : v .battery ≡ u .battery
-  pub identifier : v .identifier ≡ u .identifier
 
 then : {u v w : TagUnit} → Aside u v → Aside v w → Aside u w
 then f g =
@@ -49,7 +48,6 @@ then f g =
       protection = g .protection ∙ f .protection;
       pairing = g .pairing ∙ f .pairing;
       battery = g .battery ∙ f .battery;
-      identifier = g .identifier ∙ f .identifier;
     }
 
 ring-aside : (u : TagUnit) → Aside u (ringOn u)
@@ -69,7 +67,6 @@ tenth-aside u =
       protection = r .protection;
       pairing = r .pairing;
       battery = r .battery;
-      identifier = r .identifier;
     }
 
 pub tenths-aside : (n : ℕ) (u : TagUnit) → Aside u (tenths n u .unit)
@@ -226,7 +223,7 @@ silent-call n u e =
       nothing = h .nothing;
       ended = h .ended;
       rest =
-          (a .settings, tt, a .nonce, a .accounts, a .identity, a .waiting, h .hushed ∙ sym e, h .nonce, a .protection, tt, a .pairing, a .battery, a .identifier);
+          (a .settings, tt, a .nonce, a .accounts, a .identity, a .waiting, h .hushed ∙ sym e, h .nonce, a .protection, tt, a .pairing, a .battery);
     }
 
 pub ringing-call : (n : ℕ) (u : TagUnit) {mask volume left : ℕ} → u .sound ≡ Sound.Ringing mask volume left → n < left
@@ -239,7 +236,7 @@ ringing-call n u e h =
       nonce = o .nonce;
       nothing = o .nothing;
       ended = o .ended;
-      rest = (a .settings, tt, a .nonce, a .accounts, a .identity, a .waiting, tt, o .nonce, a .protection, tt, a .pairing, a .battery, a .identifier);
+      rest = (a .settings, tt, a .nonce, a .accounts, a .identity, a .waiting, tt, o .nonce, a .protection, tt, a .pairing, a .battery);
     }
 
 pub ending-call : (n : ℕ) (u : TagUnit) {mask volume left : ℕ} → u .sound ≡ Sound.Ringing mask volume left → 1 ≤ left → left ≤ n
@@ -252,5 +249,5 @@ ending-call n u e some h =
       nonce = o .nonce;
       notice = o .notice;
       ended = o .ended;
-      rest = (a .settings, tt, a .nonce, a .accounts, a .identity, a .waiting, tt, tt, a .protection, tt, a .pairing, a .battery, a .identifier);
+      rest = (a .settings, tt, a .nonce, a .accounts, a .identity, a .waiting, tt, tt, a .protection, tt, a .pairing, a .battery);
     }

@@ -15,18 +15,18 @@ use Rattle.laws.specs.Answer.{Result, gives, refuses}
 use Rattle.unit.specs.declared.TagUnit.{TagUnit}
 use Rattle.unit.specs.declared.Sound.{Sound}
 use Rattle.nonces.specs.Nonces.{issuedNonces, noncesLegal}
-use Rattle.unit.specs.WellFormed.{wellFormed, settingsLegal, accountsLegal, ownerLegal, identityLegal, soundLegal, identifierLegal, heldKeys}
+use Rattle.unit.specs.WellFormed.{wellFormed, settingsLegal, accountsLegal, ownerLegal, identityLegal, soundLegal, heldKeys}
 use Rattle.unit.specs.Outcome.{Outcome, giving, refusing, formed, answering}
 use Rattle.laws.specs.Bytes.{allZero}
 use Rattle.tables.specs.Rows.{rows, among, distinct}
-use Rattle.unit.specs.Standing.{stands}
+use Rattle.standing.specs.Standing.{stands, currentScalar, currentIdentifier, currentR}
 use Rattle.unit.proofs.Lines.{lines, ring-held}
 use Rattle.time.specs.Time.{endsNext, oneTenth, afterTenth, tenths}
 use Rattle.sleep.specs.Sleep.{Happens, ringEnds, consentEnds, windowChanges, secondsReturn, laterBy, Soonest}
 use Rattle.sleep.specs.Counts.{soonestOf}
 use Rattle.sleep.proofs.LeastCount.{soonest-of}
 use Rattle.frame.specs.Frame.{rendered, flagsFor}
-use Rattle.tag.specs.Own.{protected, showing}
+use Rattle.advertising.specs.Showing.{protected, showing}
 use Rattle.tag.specs.Calls.{frame, own, guarded, call, Act, calls, act}
 use Rattle.demands.specs.History.{step}
 use Rattle.demands.specs.Time.{World, slept, runs, start}
@@ -95,7 +95,7 @@ framed small stands bytes = cond small (refuses 6) (cond stands (gives bytes) (r
 
 abbrev frameBytes : TagUnit → List ℕ
 frameBytes u =
-    rendered 20 (u .identifier .id) (protected (u .protection)) (flagsFor (u .battery) (protected (u .protection)) (u .identifier .r))
+    rendered 20 (currentIdentifier u) (protected (u .protection)) (flagsFor (u .battery) (protected (u .protection)) (currentR u))
 
 frame-made : (room : ℕ) (u : TagUnit) → wellFormed u ≡ true
     → step (calls frame room) u .result ≡ framed (ltb room answerRoom) (stands u) (frameBytes u)
@@ -108,17 +108,20 @@ frame-made room u w = rw w (go (ltb room answerRoom) (stands u))
     go false false = refl
 
 stands-same : (u v : TagUnit) → Aside u v → window (v .clock .seconds) ≡ window (u .clock .seconds) → stands v ≡ stands u
-stands-same u v aside same = rw (aside .identity, aside .identifier, same)
+unfolding stands currentScalar
+stands-same u v aside same = rw (aside .identity, same)
 
-bytes-same : (u v : TagUnit) → Aside u v → frameBytes v ≡ frameBytes u
-bytes-same u v aside = rw (aside .identifier, aside .protection, aside .battery)
+bytes-same : (u v : TagUnit) → Aside u v → window (v .clock .seconds) ≡ window (u .clock .seconds) → frameBytes v ≡ frameBytes u
+unfolding currentScalar currentIdentifier currentR
+bytes-same u v aside same = rw (aside .identity, same, aside .protection, aside .battery)
 
 module _ (u : TagUnit) (n : ℕ) (named : Names u n) where
   frame-stays : (m room : ℕ) → m < n → step (calls frame room) (laterBy m u) .result ≡ step (calls frame room) u .result
   frame-stays m room h =
       let aside = tenths-aside m u in
+      let same = still u n (named .soonest) m h .windowSame in
       frame-made room (laterBy m u) (tenths-kept m u (named .formed))
-      ∙ rw (stands-same u (laterBy m u) aside (still u n (named .soonest) m h .windowSame), bytes-same u (laterBy m u) aside)
+      ∙ rw (stands-same u (laterBy m u) aside same, bytes-same u (laterBy m u) aside same)
       (sym (frame-made room u (named .formed)))
 
   unnoticed : (l : List Act) → OnlyTime l → tenthsIn l < n → Unnoticed u l
@@ -235,7 +238,7 @@ rows-hold [] h = tt
 rows-hold (r ∷ rs) h = (row-names r (and-left _ _ h), rows-hold rs (and-right (right r) _ h))
 
 computed : allRight table ≡ true
-unfolding table wellFormed settingsLegal accountsLegal ownerLegal identityLegal noncesLegal issuedNonces soundLegal identifierLegal heldKeys rows distinct among allZero
+unfolding table wellFormed settingsLegal accountsLegal ownerLegal identityLegal noncesLegal issuedNonces soundLegal heldKeys rows distinct among allZero
 computed = refl
 
 pub sleep-until : SleepUntil

@@ -1,8 +1,8 @@
 -- Where the literal words of the statements meet the definitions: bytes of a number, the power byte, masks, what a ring asks for, whose
--- key the owner's is, and which identifier stands.
+-- key the owner's is.
 use Prim.Native.Nat.{ℕ, zero, suc, _+_, _*_, _-_, _/_, _%_, _^_, _≤_, _<_}
 use mathlib.Core.Path.{_≡_, refl, sym, ap, _∙_}
-use mathlib.Core.Bool.{Bool, true, false, cond}
+use mathlib.Core.Bool.{true, false, cond}
 use mathlib.Core.List.{List, [], _∷_}
 use mathlib.Core.Option.{some}
 use native.Mathlib.Omega.{arith}
@@ -13,7 +13,7 @@ use lib.IntN.{ℤ, pos, negsuc}
 use lib.ListN.{getD}
 use borrow.Author.Tests.{le-leb, eq-eqb, ne-eqb, eqb-true}
 use Rattle.laws.specs.Bytes.{bigEndian, number, numberAfter, sameBytes}
-use Rattle.laws.proofs.Flags.{or-right, and-fails-right, agree}
+use Rattle.laws.proofs.Flags.{or-right, agree}
 use Rattle.laws.proofs.Same.{same-refl, same-equal, equal-same}
 use Rattle.tables.specs.Rows.{placeOf}
 use Rattle.tables.proofs.Rows.{row-at, place-at}
@@ -21,16 +21,14 @@ use Rattle.unit.specs.declared.TagUnit.{TagUnit}
 use Rattle.unit.specs.declared.Settings.{Settings}
 use Rattle.unit.specs.declared.Owner.{Owner}
 use Rattle.unit.specs.declared.Sound.{Sound}
-use Rattle.unit.specs.Change.{spent}
 use Rattle.unit.specs.Ringable.{inside}
-use Rattle.unit.specs.Standing.{shownIdentifier}
 use Rattle.unit.specs.WellFormed.{wellFormed, heldKeys, ownerKey}
-use Rattle.unit.proofs.Lines.{lines, Lines, held-count, owner-held, ring-held, identifier-held}
+use Rattle.unit.proofs.Lines.{lines, Lines, held-count, owner-held, ring-held}
 use Rattle.provisioning.specs.Provisioning.{parameters, wireByte, claimed, isKey}
 use Rattle.ringing.specs.Ringing.{ringMask, ringLegal, allOfNone, askedTimeout, soundState}
 use Rattle.demands.proofs.RecordLines.{key-at}
 use Rattle.demands.specs.Spelled.{keyAtPlace, OwnedWith}
-use Rattle.demands.specs.Accepted.{signedByte, parameterBytes, ownerBit, ownerThen, standing, ringable, Means, whole, itself, RingLegal, ringBytes, soundBytes}
+use Rattle.demands.specs.Accepted.{signedByte, parameterBytes, ownerBit, ownerThen, ringable, Means, whole, itself, RingLegal, ringBytes, soundBytes}
 
 -- Two bytes of a number that has no more, and four
 pub two-bytes : (n : ℕ) → n < 65536 → bigEndian 2 n ≡ (n / 256) ∷ (n % 256) ∷ []
@@ -146,15 +144,6 @@ owner-bit u l p h Owner.Nobody e = rw (key-place u l p h, key-at u p h, same-ref
 owner-bit u l p h (Owner.Place q) e =
     let there = owner-held l q e in
     rw (e, key-at u q there, same-place u l p q h there)
-
--- An identifier is lent only with an identity key
-pub standing-is : (u : TagUnit) → Lines u → shownIdentifier (spent u) ≡ standing u
-unfolding shownIdentifier
-standing-is u l = go (u .identifier .held) refl
-  where
-    go : (b : Bool) → u .identifier .held ≡ b → shownIdentifier (spent u) ≡ standing u
-    go true e = rw (identifier-held l e)
-    go false e = rw (e, and-fails-right (u .identity .held) refl)
 
 -- The tenths left of a ring are two bytes
 pub sound-state : (u : TagUnit) → Lines u → soundState (u .sound) ≡ soundBytes (u .sound)

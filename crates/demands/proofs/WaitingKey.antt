@@ -32,7 +32,7 @@ use Rattle.demands.proofs.WaitingUnseen.{Along, runs-along}
 -- Two units that differ in the waiting key alone
 unseen : (u v : TagUnit) (l : List Act) → wellFormed u ≡ true → wellFormed v ≡ true → AllBut (waiting ∷ []) u v → Connected l
     → Alike (runs slept l (start u)) (runs slept l (start v))
-unseen u v l first second (a, b, c, d, e, _, f, g, h, i, j, k, m) connected =
+unseen u v l first second (a, b, c, d, e, _, f, g, h, i, j, k) connected =
     let along : Along (start u) (start v) =
     record {
       unit =
@@ -48,7 +48,6 @@ unseen u v l first second (a, b, c, d, e, _, f, g, h, i, j, k, m) connected =
             consent = i;
             pairing = j;
             battery = k;
-            identifier = m;
           };
       count = refl;
       answers = refl;
@@ -72,7 +71,6 @@ unseen u v l first second (a, b, c, d, e, _, f, g, h, i, j, k, m) connected =
         x .consent,
         x .pairing,
         x .battery,
-        x .identifier,
       );
     }
 

@@ -14,7 +14,7 @@ use Rattle.unit.specs.declared.Identity.{Identity}
 use Rattle.unit.specs.declared.Sound.{Sound}
 use Rattle.unit.specs.Ringable.{inside}
 use Rattle.unit.specs.Change.{withClock, withWaiting, withSound, withConsent, silenced, spent}
-use Rattle.unit.specs.Standing.{shownIdentifier}
+use Rattle.standing.specs.Standing.{currentScalar, currentIdentifier, currentR, stands, shownIdentifier}
 use Rattle.unit.specs.WellFormed.{wellFormed}
 use Rattle.unit.specs.Outcome.{Outcome, formed, answering}
 use Rattle.authentication.specs.Judgement.{Judgement, accepts, rejects, under, usedKey, signedByOwner, concluded}
@@ -25,8 +25,9 @@ use Rattle.ringing.specs.Protecting.{protect, unprotect}
 use Rattle.requests.specs.Write.{byId, judged, written}
 use Rattle.time.specs.Time.{clockOn, endsNext, soundOn, ringOn, oneTenth, timeoutNotice, afterTenth, tenths}
 use Rattle.nonces.specs.Nonces.{nonceFits}
-use Rattle.tag.specs.Own.{issuing, pressed, charged, keeping, lending, showing}
-use Rattle.tag.specs.Calls.{Call, read, write, button, pairing, battery, accountKey, disconnect, identifier, frame, own, Act, calls, waits}
+use Rattle.advertising.specs.Showing.{showing}
+use Rattle.tag.specs.Own.{issuing, pressed, charged, keeping}
+use Rattle.tag.specs.Calls.{Call, read, write, button, pairing, battery, accountKey, disconnect, frame, own, Act, calls, waits}
 use Rattle.demands.specs.History.{step}
 use Rattle.demands.specs.Time.{World, called, slept, ran, runs}
 use Rattle.demands.specs.WaitingKey.{Disconnects, disconnects, Connected}
@@ -46,7 +47,6 @@ pub record Beside (u v : TagUnit) : Type 0 where
   pub consent : v .consent ≡ u .consent
   pub pairing : v .pairing ≡ u .pairing
   pub battery : v .battery ≡ u .battery
-  pub identifier : v .identifier ≡ u .identifier
 
 -- two judgements
 data Judges : Judgement → Judgement → Type 0 where
@@ -70,7 +70,7 @@ rung-alike Decision.Stopped u k volume left = search alike
 rung-alike Decision.Failed u k volume left = search alike
 
 by-id-alike : (u : TagUnit) (k : Identity) (q : Request) (reach : ℕ) → Judges (byId u q reach) (byId (withWaiting k u) q reach)
-unfolding byId readParameters readState setKey mayReplace clearKey cleared recoverKey ring readSound protect unprotect usedKey signedByOwner shownIdentifier
+unfolding byId readParameters readState setKey mayReplace clearKey cleared recoverKey ring readSound protect unprotect usedKey signedByOwner shownIdentifier stands currentScalar currentIdentifier
 by-id-alike u k q reach = search (alike, rung-alike) depth 24
 
 judged-alike : (u : TagUnit) (k : Identity) (w : List ℕ) (reach : ℕ) → Judges (judged u w reach) (judged (withWaiting k u) w reach)
@@ -105,7 +105,7 @@ module _ (u : TagUnit) (k : Identity) where
   pressed-alike (Sound.Ringing mask volume left) = search ends
 
   pub own-alike : (c : Call) → (c ≡ disconnect → ⊥) → Ends (own c u) (own c (withWaiting k u))
-  unfolding own issuing nonceFits charged keeping lending showing written
+  unfolding own issuing nonceFits charged keeping showing stands currentScalar currentIdentifier currentR written
   own-alike (read nonce) other = search (ends, ends-either) depth 10
   own-alike (write w) other =
       ends-either (inside (w .reach) (u .settings .components)) (concluded-alike (search) (judged-alike u k (w .bytes) (w .reach))) (search ends)
@@ -114,7 +114,6 @@ module _ (u : TagUnit) (k : Identity) where
   own-alike (battery level) other = search (ends, ends-either) depth 10
   own-alike (accountKey key) other = search (ends, ends-either) depth 10
   own-alike disconnect other = absurd (other refl)
-  own-alike (identifier r id) other = search (ends, ends-either) depth 10
   own-alike frame other = search (ends, ends-either) depth 10
 
 -- Time: two units that are the same but for the waiting key, and an equation for it
@@ -133,7 +132,6 @@ beside-is {u} {v} b = λ i.
       consent = b .consent i;
       pairing = b .pairing i;
       battery = b .battery i;
-      identifier = b .identifier i;
     }
 
 -- a tenth, with the ring that ends in it or goes on

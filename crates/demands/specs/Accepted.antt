@@ -3,7 +3,7 @@
 -- leaves this unit, whichever parts are in reach, in literal numbers over SHA256, HMAC and AES128 alone. Without this a tag that always refuses would keep every promise.
 use Prim.Native.Nat.{ℕ, _+_, _*_, _-_, _/_, _%_, _≤_, _<_}
 use mathlib.Core.Path.{_≡_}
-use mathlib.Core.Bool.{true, false, cond, _&&_}
+use mathlib.Core.Bool.{true, false, cond, not, _&&_}
 use mathlib.Core.List.{List, [], _∷_, _++_}
 use mathlib.Core.Logic.{_⊎_}
 use lib.Dec.{eqb}
@@ -18,7 +18,8 @@ use Rattle.unit.specs.declared.Protection.{Protection}
 use Rattle.unit.specs.WellFormed.{wellFormed}
 use Rattle.tag.specs.Calls.{read, Act, calls}
 use Rattle.demands.specs.History.{step, sends}
-use Rattle.demands.specs.Spelled.{keyFrom, proofFrom, tagFrom, requestFrom, answerFrom, bit, NoBitOutside, keyAtPlace, nonceAtPlace, OwnedWith, AllBut, settings, clock, nonce, accounts, identity, waiting, sound, ringNonce, protection, consent, pairing, identifier, NonceSpent, OnlySpends}
+use Rattle.demands.specs.EphemeralIdentifier.{rOf, identifierOf}
+use Rattle.demands.specs.Spelled.{keyFrom, proofFrom, tagFrom, requestFrom, answerFrom, bit, NoBitOutside, keyAtPlace, nonceAtPlace, OwnedWith, AllBut, settings, clock, nonce, accounts, identity, waiting, sound, ringNonce, protection, consent, pairing, NonceSpent, OnlySpends}
 
 -- an act is served: it gives this answer, and the unit after it is as said
 pub record Serves (a : Act) (u : TagUnit) (answer : List ℕ) (Left : TagUnit → Type 0) : Type 0 where
@@ -88,12 +89,9 @@ abbrev pub ownerThen : Owner → ℕ → Owner
 ownerThen Owner.Nobody p = Owner.Place p
 ownerThen (Owner.Place q) p = Owner.Place q
 
--- "then the identifier if one stands for the current window, else nothing"; "The window is the seconds with the low 10 bits cleared"
-abbrev pub windowOf : ℕ → ℕ
-windowOf seconds = seconds / 1024 * 1024
-
+-- "0x01 omits the identifier .. only with no key or if r is 0 before the cut"
 abbrev pub standing : TagUnit → List ℕ
-standing u = cond (u .identifier .held && eqb (u .identifier .window) (windowOf (u .clock .seconds))) (u .identifier .id) []
+standing u = cond (u .identity .held && not (eqb (rOf u) 0)) (identifierOf u) []
 
 pub record OwnerKnown (p : ℕ) (u v : TagUnit) : Type 0 where
   pub nonceSpent : NonceSpent u v
@@ -102,26 +100,23 @@ pub record OwnerKnown (p : ℕ) (u v : TagUnit) : Type 0 where
   pub owner : v .accounts .owner ≡ ownerThen (u .accounts .owner) p
   pub rest : AllBut (nonce ∷ accounts ∷ []) u v
 
--- silent, with no nonce of a ring; and no identifier lent. A record with "room for absent things not zero, is not well formed"
+-- silent, with no nonce of a ring. A record with "room for absent things not zero, is not well formed"
 abbrev pub Silent : TagUnit → Type 0
 Silent v = (v .sound ≡ Sound.Silent) × (v .«ring_nonce» ≡ replicate 8 0)
-
-abbrev pub Unlent : TagUnit → Type 0
-Unlent v = v .identifier ≡ record { held = false; r = replicate 20 0; id = replicate 20 0; window = 0 }
 
 -- no key waits: zeros in its room
 abbrev pub NoneWaits : TagUnit → Type 0
 NoneWaits v = v .waiting ≡ record { held = false; bytes = replicate 32 0 }
 
 -- "The first 32 data bytes, two blocks decrypted with the owner key", are the key that now waits: "Until then the accepted key waits"; it
--- "replaces the waiting one". The key in force, sound and identifier stay
+-- "replaces the waiting one". The key in force and the sound stay
 pub record Awaits (key C : List ℕ) (u v : TagUnit) : Type 0 where
   pub nonceSpent : NonceSpent u v
   pub waitingIs : v .waiting ≡ record { held = true; bytes = InvAES128 key (take 16 C) ++ InvAES128 key (take 16 (drop 16 C)) }
   pub rest : AllBut (nonce ∷ waiting ∷ []) u v
 
 -- "The unit becomes fresh, keeping settings, clock, last nonce (spent), battery and pairing (house)"; "Fresh: no keys, nonce, sound,
--- protection, consent, pairing or identifier"; "0x03 drops both", the key in force and the waiting one
+-- protection, consent, pairing .."; "0x03 drops both", the key in force and the waiting one
 pub record Cleared (u v : TagUnit) : Type 0 where
   pub nonceSpent : NonceSpent u v
   pub keyless : v .accounts ≡ record { count = 0; owner = Owner.Nobody; keys = replicate 80 0 }
@@ -130,8 +125,7 @@ pub record Cleared (u v : TagUnit) : Type 0 where
   pub silent : Silent v
   pub unprotected : v .protection ≡ Protection.Off
   pub unconsented : v .consent ≡ 0
-  pub unlent : Unlent v
-  pub rest : AllBut (nonce ∷ accounts ∷ identity ∷ waiting ∷ sound ∷ ringNonce ∷ protection ∷ consent ∷ identifier ∷ []) u v
+  pub rest : AllBut (nonce ∷ accounts ∷ identity ∷ waiting ∷ sound ∷ ringNonce ∷ protection ∷ consent ∷ []) u v
 
 -- "Data: the identity key, two blocks encrypted with the owner key"
 abbrev pub keyBlocks : List ℕ → List ℕ → List ℕ

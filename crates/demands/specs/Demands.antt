@@ -17,6 +17,8 @@
 -- equal what the plain tag of our rules, moving one tenth at a time, gives for either list. Reason: a ring asked for ten minutes must last ten
 -- minutes whether the chip dozed once or a thousand times."
 --
+-- And of the identifier that the tag works out: "Demand 2 then reads the curve definition; demand 3 no longer counts the identifier event."
+--
 -- And of the change that keeps a new key waiting: "Demands 2 and 3 count the disconnect as one more event, and recovery speaks of the key in
 -- force."
 --

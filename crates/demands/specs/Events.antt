@@ -1,4 +1,4 @@
--- Demand 2, what is no read and no write: a new unit, the button, pairing, battery, account keys, the disconnect, the lent identifier, the
+-- Demand 2, what is no read and no write: a new unit, the button, pairing, battery, account keys, the disconnect, the
 -- frame and one tenth of time. Each gives these bytes and changes these parts of a well-formed unit, in literal numbers, and no other part.
 -- More tenths than one are that many single tenths by demand 3.
 use Prim.Native.Nat.{ℕ, _+_, _*_, _-_, _/_, _%_, _≤_, _<_}
@@ -18,14 +18,15 @@ use Rattle.unit.specs.WellFormed.{wellFormed}
 use Rattle.tag.specs.Calls.{newUnit, Call, button, accountKey, disconnect, frame, calls, waits}
 use Rattle.demands.specs.History.{step}
 use Rattle.demands.specs.Spelled.{keyAtPlace, AllBut, Part, clock, accounts, identity, waiting, sound, ringNonce, consent}
-use Rattle.demands.specs.Accepted.{Serves, NoneWaits, Silent, Unlent, windowOf, stopNotice}
+use Rattle.demands.specs.EphemeralIdentifier.{rOf, identifierOf, cutR}
+use Rattle.demands.specs.Accepted.{Serves, NoneWaits, Silent, stopNotice}
 
 -- "calibrated power, a whole number from -100 to 20": negsuc n is -(n + 1)
 abbrev pub PowerWithin : ℤ → Type 0
 PowerWithin (pos n) = n ≤ 20
 PowerWithin (negsuc n) = n + 1 ≤ 100
 
--- "Fresh: no keys, nonce, sound, protection, consent, pairing or identifier; battery 0"; "A fresh unit starts at 0". No key: none in force,
+-- "Fresh: no keys, nonce, sound, protection, consent, pairing .. battery 0"; "A fresh unit starts at 0". No key: none in force,
 -- and none that waits. A record with "room for absent things not zero, is not well formed"
 pub record Fresh (power : ℤ) (components selectable : ℕ) (v : TagUnit) : Type 0 where
   pub settingsAre : v .settings ≡ record { power = power; components = components; selectable = selectable }
@@ -39,7 +40,6 @@ pub record Fresh (power : ℤ) (components selectable : ℕ) (v : TagUnit) : Typ
   pub unconsented : v .consent ≡ 0
   pub unpaired : v .pairing ≡ false
   pub unknown : v .battery ≡ 0
-  pub unlent : Unlent v
 
 -- "A press while ringing stops it .. and gives no consent"
 pub record Hushed (u v : TagUnit) : Type 0 where
@@ -66,29 +66,22 @@ pub record Keeps (key : List ℕ) (u v : TagUnit) : Type 0 where
   pub keys : v .accounts .keys ≡ take (16 * u .accounts .count) (u .accounts .keys) ++ (key ++ drop (16 * u .accounts .count + 16) (u .accounts .keys))
   pub rest : AllBut (accounts ∷ []) u v
 
--- The new key "takes effect right after the connection ends"; "Sound ends and the identifier is dropped at a disconnect that brings a waiting
--- key in"
+-- The new key "takes effect right after the connection ends"; "Sound ends .. at a disconnect that brings a waiting key in"
 pub record BroughtIn (u v : TagUnit) : Type 0 where
   pub inForce : v .identity ≡ record { held = true; bytes = u .waiting .bytes }
   pub noneWaits : NoneWaits v
   pub silent : Silent v
-  pub unlent : Unlent v
-  pub rest : AllBut (identity ∷ waiting ∷ sound ∷ ringNonce ∷ Part.identifier ∷ []) u v
-
-pub record Lends (r id : List ℕ) (u v : TagUnit) : Type 0 where
-  pub identifierIs : v .identifier ≡ record { held = true; r = r; id = id; window = windowOf (u .clock .seconds) }
-  pub rest : AllBut (Part.identifier ∷ []) u v
+  pub rest : AllBut (identity ∷ waiting ∷ sound ∷ ringNonce ∷ []) u v
 
 abbrev pub Same : TagUnit → TagUnit → Type 0
 Same u v = v ≡ u
 
--- a unit that shows a frame: "Refusal 5 without a key or an identifier for the current window"; an identifier is lent "only with an
--- identity key"
+-- a unit that shows a frame: "a frame is refused with 5, only with no key or if r is 0 before the cut"
 pub record Shows (u : TagUnit) (room : ℕ) : Type 0 where
   pub formed : wellFormed u ≡ true
   pub fits : 42 ≤ room
-  pub lent : u .identifier .held ≡ true
-  pub current : u .identifier .window ≡ windowOf (u .clock .seconds)
+  pub keyed : u .identity .held ≡ true
+  pub above : rOf u ≡ 0 → ⊥
 
 -- "XOR the last byte of SHA256(r)"
 abbrev pub masked : ℕ → List ℕ → ℕ
@@ -133,21 +126,18 @@ pub record Events : Type 0 where
   -- without answer bytes, and without a notice; "any other disconnect changes nothing"
   pub keyBroughtIn : (u : TagUnit) (room : ℕ) → wellFormed u ≡ true → u .waiting .held ≡ true → Serves (calls disconnect room) u [] (BroughtIn u)
   pub nothingBroughtIn : (u : TagUnit) (room : ℕ) → wellFormed u ≡ true → u .waiting .held ≡ false → Serves (calls disconnect room) u [] (Same u)
-  -- "The host lends, for the current window, r (20 bytes) and the identifier (20 bytes)"
-  pub identifierLent : (u : TagUnit) (room : ℕ) (r id : List ℕ) → wellFormed u ≡ true → length r ≡ 20 → length id ≡ 20 → u .identity .held ≡ true
-      → Serves (calls (Call.identifier r id) room) u [] (Lends r id u)
   -- "02 01 06, length 0x18 or 0x19, 16 AA FE, 0x40 (0x41 under protection), identifier: 28 bytes, or 29 with the flags byte, when the length
   -- is 0x19. The flags byte is battery times 2 plus protection, XOR the last byte of SHA256(r); left out, exactly, when battery and
   -- protection are both 0"
   pub frameBare : (u : TagUnit) (room : ℕ) → Shows u room → u .battery ≡ 0 → u .protection ≡ Protection.Off
-      → Serves (calls frame room) u (0x02 ∷ 0x01 ∷ 0x06 ∷ 0x18 ∷ 0x16 ∷ 0xAA ∷ 0xFE ∷ 0x40 ∷ u .identifier .id) (Same u)
+      → Serves (calls frame room) u (0x02 ∷ 0x01 ∷ 0x06 ∷ 0x18 ∷ 0x16 ∷ 0xAA ∷ 0xFE ∷ 0x40 ∷ identifierOf u) (Same u)
   pub frameFlagged : (u : TagUnit) (room : ℕ) → Shows u room → 0 < u .battery → u .protection ≡ Protection.Off
       → Serves (calls frame room) u
-      (0x02 ∷ 0x01 ∷ 0x06 ∷ 0x19 ∷ 0x16 ∷ 0xAA ∷ 0xFE ∷ 0x40 ∷ u .identifier .id ++ (masked (u .battery * 2) (u .identifier .r) ∷ []))
+      (0x02 ∷ 0x01 ∷ 0x06 ∷ 0x19 ∷ 0x16 ∷ 0xAA ∷ 0xFE ∷ 0x40 ∷ identifierOf u ++ (masked (u .battery * 2) (cutR u) ∷ []))
       (Same u)
   pub frameProtected : (u : TagUnit) (room : ℕ) (skip : Bool) → Shows u room → u .protection ≡ Protection.On skip
       → Serves (calls frame room) u
-      (0x02 ∷ 0x01 ∷ 0x06 ∷ 0x19 ∷ 0x16 ∷ 0xAA ∷ 0xFE ∷ 0x41 ∷ u .identifier .id ++ (masked (u .battery * 2 + 1) (u .identifier .r) ∷ []))
+      (0x02 ∷ 0x01 ∷ 0x06 ∷ 0x19 ∷ 0x16 ∷ 0xAA ∷ 0xFE ∷ 0x41 ∷ identifierOf u ++ (masked (u .battery * 2 + 1) (cutR u) ∷ []))
       (Same u)
   -- "One tenth: clock on by one; ring left less one, and at 0 silent with a status 2 notice; consent less one unless 0"; "Timeout .. notices
   -- use the nonce of the accepted ring"; a call "reports the tenth .. at which a ring ended, or 0"

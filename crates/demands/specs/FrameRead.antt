@@ -4,7 +4,6 @@ use Prim.Native.Nat.{ℕ}
 use mathlib.Core.Path.{_≡_}
 use mathlib.Core.Bool.{Bool, true, false}
 use mathlib.Core.List.{List}
-use lib.ListN.{length}
 use Rattle.laws.specs.Answer.{gives}
 use Rattle.unit.specs.declared.TagUnit.{TagUnit}
 use Rattle.unit.specs.declared.Protection.{Protection}
@@ -12,27 +11,27 @@ use Rattle.frame.specs.declared.Flags.{Flags}
 use Rattle.frame_reader.specs.Reader.{Parts, reads, readFrame, readFrameWithR}
 use Rattle.frame_laws.specs.ReadBack.{ReadBack, ReadBackWithR}
 use Rattle.tag.specs.Calls.{frame, calls}
+use Rattle.demands.specs.EphemeralIdentifier.{identifierOf, cutR}
 use Rattle.demands.specs.History.{step}
 
 abbrev pub isProtected : Protection → Bool
 isProtected Protection.Off = false
 isProtected (Protection.On skip) = true
 
--- a text reads to a unit's identifier and protection, and with the unit's r to its battery level; the flags byte is the same both times
+-- a text reads to the identifier and the protection of a unit, and with its r to its battery level; the flags byte is the same both times
 pub record ReadsToUnit (u : TagUnit) (text : List ℕ) : Type 0 where
   pub flags : Flags
-  pub read : readFrame 20 text ≡ reads (record { identifier = u .identifier .id; protected = isProtected (u .protection); flags = flags })
-  pub readWithR : readFrameWithR 20 (u .identifier .r) text
+  pub read : readFrame 20 text ≡ reads (record { identifier = identifierOf u; protected = isProtected (u .protection); flags = flags })
+  pub readWithR : readFrameWithR 20 (cutR u) text
       ≡ reads
       (record {
-        parts = record { identifier = u .identifier .id; protected = isProtected (u .protection); flags = flags };
+        parts = record { identifier = identifierOf u; protected = isProtected (u .protection); flags = flags };
         battery = u .battery;
       })
 
 pub record FrameRead : Type 0 where
-  -- whatever the unit, if the call `frame` gives a text; its r and identifier have 20 bytes, as those of every record of the code
-  pub sentReads : (u : TagUnit) (room : ℕ) (text : List ℕ) → length (u .identifier .r) ≡ 20 → length (u .identifier .id) ≡ 20
-      → step (calls frame room) u .result ≡ gives text → ReadsToUnit u text
+  -- whatever the unit, if the call `frame` gives a text
+  pub sentReads : (u : TagUnit) (room : ℕ) (text : List ℕ) → step (calls frame room) u .result ≡ gives text → ReadsToUnit u text
   -- any text: both round trips, and refused exactly at the first wrong byte
   pub anyText : ReadBack 20
   pub anyTextWithR : (r : List ℕ) → ReadBackWithR 20 r

@@ -1,11 +1,11 @@
 -- Acts and histories. The step of an act is the very definition that the promise of each call in the crate `tag` cites, so what is said of
 -- a history is said of the code.
 use Prim.Native.Nat.{ℕ, _<_}
-use mathlib.Core.List.{List, [], _∷_, _++_}
+use mathlib.Core.List.{List, [], _∷_}
 use lib.ListN.{getD}
 use Rattle.unit.specs.declared.TagUnit.{TagUnit}
 use Rattle.unit.specs.Outcome.{Outcome}
-use Rattle.tag.specs.Calls.{Written, Call, read, write, button, pairing, battery, accountKey, disconnect, identifier, frame, Act, calls, waits, act}
+use Rattle.tag.specs.Calls.{Written, Call, read, write, button, pairing, battery, accountKey, disconnect, frame, Act, calls, waits, act}
 
 -- what an act does on a unit
 abbrev pub step : Act → TagUnit → Outcome
@@ -36,7 +36,6 @@ handed (pairing on) = []
 handed (battery level) = []
 handed (accountKey key) = key
 handed disconnect = []
-handed (identifier r id) = r ++ id
 handed frame = []
 
 abbrev pub OfBytes : Act → Type 0

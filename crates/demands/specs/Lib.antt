@@ -1,4 +1,5 @@
 pub mod Spelled
+pub mod EphemeralIdentifier
 pub mod History
 pub mod Ends
 pub mod Formed

@@ -1,5 +1,5 @@
 -- "What a unit holds", line by line and in literal numbers: a record is well formed exactly if it breaks none of these lines. What does not
--- stand here is allowed: a ring without a last nonce or with another, an identifier of another window than the clock's, consent without a key.
+-- stand here is allowed: a ring without a last nonce or with another, consent without a key.
 -- (That seconds have 32 bits, that flags are 0 or 1 and how long each room is, the types of the record say.)
 use Prim.Native.Nat.{ℕ, _*_, _/_, _%_, _^_, _≤_, _<_}
 use mathlib.Core.Path.{_≡_}
@@ -66,12 +66,6 @@ pub record RecordLines (u : TagUnit) : Type 0 where
   -- "Consent tenths left, 0 to 600; pairing flag; battery 0 to 3"
   pub consent : u .consent ≤ 600
   pub battery : u .battery ≤ 3
-  -- "a lent identifier with its r and its window (low 10 bits clear), only with an identity key"
-  pub identifierKeyed : u .identifier .held ≡ true → u .identity .held ≡ true
-  pub identifierWindow : u .identifier .held ≡ true → u .identifier .window % 1024 ≡ 0
-  pub noR : u .identifier .held ≡ false → Zeros (u .identifier .r)
-  pub noIdentifier : u .identifier .held ≡ false → Zeros (u .identifier .id)
-  pub noWindow : u .identifier .held ≡ false → u .identifier .window ≡ 0
 
 pub record WellFormedExactly : Type 0 where
   pub met : (u : TagUnit) → wellFormed u ≡ true → RecordLines u

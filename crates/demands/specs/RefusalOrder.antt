@@ -1,7 +1,7 @@
--- The refusal list over all calls, in literal numbers: "Each is given exactly then .. Order: 6, 2, then the call's own; for a lent identifier
--- 2, then 1, then 5. A new unit checks only 1." For a write 6, 2, 1, and then the nonce is spent. A call is refused with a number exactly if one of the lines below gives that number, and then
+-- The refusal list over all calls, in literal numbers: "Each is given exactly then .. Order: 6, 2, then the call's own .. A new unit checks
+-- only 1." For a write 6, 2, 1, and then the nonce is spent. A call is refused with a number exactly if one of the lines below gives that number, and then
 -- the unit is as it was; a write that is refused with 0x80, 0x81 or 0x82 only spends its nonce.
-use Prim.Native.Nat.{ℕ, _*_, _/_, _≤_, _<_}
+use Prim.Native.Nat.{ℕ, _≤_, _<_}
 use mathlib.Core.Path.{_≡_}
 use mathlib.Core.Bool.{true, false}
 use mathlib.Core.List.{List}
@@ -11,10 +11,11 @@ use lib.Signed.{_<ℤ_}
 use Rattle.laws.specs.Answer.{refuses}
 use Rattle.unit.specs.declared.TagUnit.{TagUnit}
 use Rattle.unit.specs.WellFormed.{wellFormed}
-use Rattle.tag.specs.Calls.{newUnit, Written, read, write, button, battery, accountKey, identifier, frame, Act, calls, waits}
+use Rattle.tag.specs.Calls.{newUnit, Written, read, write, button, battery, accountKey, frame, Act, calls, waits}
 use Rattle.demands.specs.History.{step}
 use Rattle.demands.specs.Spelled.{bit, NoBitOutside, keyAtPlace, nonceAtPlace, OnlySpends}
 use Rattle.demands.specs.Refused.{Reason}
+use Rattle.demands.specs.EphemeralIdentifier.{rOf}
 
 -- "Calls with answer bytes: read, write, button, elapsed, frame." The act, and how many it is lent
 pub data Lent : Act → ℕ → Type 0 where
@@ -39,15 +40,9 @@ pub data Own (u : TagUnit) : Act → ℕ → Type 0 where
   keyLength : {key : List ℕ} {room : ℕ} → (length key ≡ 16 → ⊥) → Own u (calls (accountKey key) room) 4
   sixthKey : {key : List ℕ} {room : ℕ} → u .accounts .count ≡ 5 → ((p : ℕ) → p < 5 → keyAtPlace u p ≡ key → ⊥)
       → Own u (calls (accountKey key) room) 4
-  -- 1: "lent r or identifier not 20 bytes", before 5: "no identity key for a lent identifier"
-  rLength : {r id : List ℕ} {room : ℕ} → (length r ≡ 20 → ⊥) → Own u (calls (identifier r id) room) 1
-  identifierLength : {r id : List ℕ} {room : ℕ} → (length id ≡ 20 → ⊥) → Own u (calls (identifier r id) room) 1
-  lentWithoutKey : {r id : List ℕ} {room : ℕ} → length r ≡ 20 → length id ≡ 20 → u .identity .held ≡ false
-      → Own u (calls (identifier r id) room) 5
-  -- 5: "no frame", which is "without a key or an identifier for the current window"; "The window is the seconds with the low 10 bits cleared"
+  -- 5: "a frame is refused with 5, only with no key or if r is 0 before the cut"
   frameWithoutKey : {room : ℕ} → u .identity .held ≡ false → Own u (calls frame room) 5
-  frameWithoutIdentifier : {room : ℕ} → u .identifier .held ≡ false → Own u (calls frame room) 5
-  otherWindow : {room : ℕ} → (u .identifier .window ≡ 1024 * (u .clock .seconds / 1024) → ⊥) → Own u (calls frame room) 5
+  frameOfZero : {room : ℕ} → rOf u ≡ 0 → Own u (calls frame room) 5
 
 -- why an act is refused on a unit, with its number, in order
 pub data Refusal (u : TagUnit) (a : Act) : ℕ → Type 0 where

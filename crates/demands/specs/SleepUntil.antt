@@ -18,7 +18,7 @@ use Rattle.sleep.specs.Sleep.{Soonest}
 use Rattle.tag.specs.Calls.{frame, Act, calls, waits}
 use Rattle.demands.specs.History.{step, after}
 use Rattle.demands.specs.Time.{World, slept, runs, start}
-use Rattle.demands.specs.Accepted.{windowOf}
+use Rattle.demands.specs.EphemeralIdentifier.{windowOf}
 use Rattle.demands.specs.Among.{tenthsIn}
 use Rattle.demands.specs.RingLasts.{timeoutFrom}
 use Rattle.demands.specs.Edges.{settings}

@@ -55,7 +55,7 @@ nonceAtPlace u p = take 8 (drop (8 * p) (u .nonces .newest ++ u .nonces .earlier
 
 -- The parts of a unit: `identity` is the identity key in force, `waiting` the one that waits
 pub data Part : Type 0 where
-  settings clock nonce accounts identity waiting sound ringNonce protection consent pairing battery identifier : Part
+  settings clock nonce accounts identity waiting sound ringNonce protection consent pairing battery : Part
 
 abbrev pub place : Part → ℕ
 place settings = 0
@@ -70,7 +70,6 @@ place protection = 8
 place consent = 9
 place pairing = 10
 place battery = 11
-place identifier = 12
 
 abbrev pub isOneOf : Part → List Part → Bool
 isOneOf p [] = false
@@ -95,7 +94,6 @@ AllBut changed u v =
     × Unless (isOneOf consent changed) (v .consent ≡ u .consent)
     × Unless (isOneOf pairing changed) (v .pairing ≡ u .pairing)
     × Unless (isOneOf battery changed) (v .battery ≡ u .battery)
-    × Unless (isOneOf identifier changed) (v .identifier ≡ u .identifier)
 
 -- "spends the nonce": v's nonces are u's, and none is live
 pub record NonceSpent (u v : TagUnit) : Type 0 where

@@ -1,19 +1,19 @@
 -- A call without answer bytes gives none, so that its event prints no bytes=.
 use Prim.Native.Nat.{ℕ}
 use mathlib.Core.Path.{_≡_}
-use mathlib.Core.Bool.{Bool, true, false, cond, not, _&&_}
+use mathlib.Core.Bool.{Bool, true, false, cond, not}
 use mathlib.Core.List.{List, []}
 use lib.Dec.{eqb, leb, ltb}
 use lib.ListN.{length}
 use native.Mathlib.Omega.{arith}
 use Rattle.laws.specs.Answer.{gives}
-use Rattle.sizes.specs.Sizes.{accountKeySize, identifierSize, mostKeys, highestBattery}
+use Rattle.sizes.specs.Sizes.{accountKeySize, mostKeys, highestBattery}
 use Rattle.tables.specs.Rows.{among}
 use Rattle.unit.specs.WellFormed.{wellFormed, heldKeys}
 use Rattle.unit.specs.declared.TagUnit.{TagUnit}
 use Rattle.unit.specs.Outcome.{Outcome, giving, refusing, formed}
-use Rattle.tag.specs.Own.{charged, keeping, disconnected, lending}
-use Rattle.tag.specs.Calls.{Call, read, write, button, pairing, battery, accountKey, disconnect, identifier, frame, lends, own, guarded, call}
+use Rattle.tag.specs.Own.{charged, keeping, disconnected}
+use Rattle.tag.specs.Calls.{Call, read, write, button, pairing, battery, accountKey, disconnect, frame, lends, own, guarded, call}
 
 pub record Quiet (o : Outcome) : Type 0 where
   pub none : (a : List ℕ) → o .result ≡ gives a → a ≡ []
@@ -29,7 +29,7 @@ either true x y = x
 either false x y = y
 
 own-quiet : (c : Call) (u : TagUnit) → lends c ≡ false → Quiet (own c u)
-unfolding own charged keeping disconnected lending
+unfolding own charged keeping disconnected
 own-quiet (read nonce) u h = let z : _≡_ {A = ℕ} 0 1 = cc in absurd (omega arith)
 own-quiet (write w) u h = let z : _≡_ {A = ℕ} 0 1 = cc in absurd (omega arith)
 own-quiet button u h = let z : _≡_ {A = ℕ} 0 1 = cc in absurd (omega arith)
@@ -40,9 +40,6 @@ own-quiet (accountKey k) u h =
     (either (among k (heldKeys (u .accounts))) given
     (either (ltb (u .accounts .count) mostKeys) given (refused 4 u)))
 own-quiet disconnect u h = given
-own-quiet (identifier r id) u h =
-    either (not (eqb (length r) identifierSize && eqb (length id) identifierSize)) (refused 1 u)
-    (either (u .identity .held) given (refused 5 u))
 own-quiet frame u h = let z : _≡_ {A = ℕ} 0 1 = cc in absurd (omega arith)
 
 pub call-quiet : (c : Call) (room : ℕ) (u : TagUnit) → lends c ≡ false → Quiet (call c room u)

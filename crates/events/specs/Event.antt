@@ -7,7 +7,7 @@ use Rattle.unit.specs.declared.TagUnit.{TagUnit}
 use Rattle.sizes.specs.Sizes.{answerRoom}
 use Rattle.unit.specs.Outcome.{Outcome}
 use Rattle.tag.specs.Calls as tag
-use Rattle.tag.specs.Calls.{Call, read, write, button, pairing, battery, accountKey, disconnect, identifier, frame, call}
+use Rattle.tag.specs.Calls.{Call, read, write, button, pairing, battery, accountKey, disconnect, frame, call}
 use Rattle.notation.specs.Text.{ascii, decimal}
 use Rattle.printing.specs.Texts.{line, bytesText, notesText, refusedText}
 
@@ -28,7 +28,6 @@ nameOf (pairing on) = "pairing"
 nameOf (battery level) = "battery"
 nameOf (accountKey k) = "key"
 nameOf disconnect = "disconnect"
-nameOf (identifier r id) = "identifier"
 nameOf frame = "frame"
 
 -- "A success prints answer= and the event's name"

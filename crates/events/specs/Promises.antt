@@ -12,7 +12,7 @@ use Rattle.events.specs.declared.Setting.the-variants as setting
 use Rattle.events.specs.declared.Event as code
 use Rattle.events.specs.declared.Event.the-variants as event
 use Rattle.notation.specs.Written.{PutsText}
-use Rattle.tag.specs.Calls.{Call, read, write, button, pairing, battery, accountKey, disconnect, identifier, frame}
+use Rattle.tag.specs.Calls.{Call, read, write, button, pairing, battery, accountKey, disconnect, frame}
 use Rattle.events.specs.Event.{Event, asks, elapsed, performed, printed}
 
 -- what an event of the code stands for, with its number, the bytes kept from the line before, and its bytes, which stand beside it
@@ -22,16 +22,15 @@ askOf ask.Write n kept b = write (record { bytes = kept; reach = n })
 askOf ask.Button n kept b = button
 askOf ask.Frame n kept b = frame
 
-abbrev pub settingOf : Setting → ℕ → List ℕ → List ℕ → Call
-settingOf (setting.Pairing flag) n kept b = pairing flag
-settingOf setting.Battery n kept b = battery n
-settingOf setting.Key n kept b = accountKey b
-settingOf setting.Disconnect n kept b = disconnect
-settingOf setting.Identifier n kept b = identifier kept b
+abbrev pub settingOf : Setting → ℕ → List ℕ → Call
+settingOf (setting.Pairing flag) n b = pairing flag
+settingOf setting.Battery n b = battery n
+settingOf setting.Key n b = accountKey b
+settingOf setting.Disconnect n b = disconnect
 
 abbrev pub eventOf : code.Event → ℕ → List ℕ → List ℕ → Event
 eventOf (event.Asks a) n kept b = asks (askOf a n kept b)
-eventOf (event.Sets s) n kept b = asks (settingOf s n kept b)
+eventOf (event.Sets s) n kept b = asks (settingOf s n b)
 eventOf event.Elapsed n kept b = elapsed n
 
 -- what performing an event promises

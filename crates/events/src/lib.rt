@@ -21,7 +21,6 @@ pub enum Setting {
     Pairing(bool),
     Battery,
     Key,
-    Identifier,
     Disconnect,
 }
 
@@ -46,7 +45,7 @@ pub fn perform(
 {
     match e {
         Event::Asks(what) => asked(u, what, number, kept, bytes, out, at),
-        Event::Sets(what) => set(u, what, number, kept, bytes, out, at),
+        Event::Sets(what) => set(u, what, number, bytes, out, at),
         Event::Elapsed => elapse(u, number, out, at),
     }
 }
@@ -84,17 +83,9 @@ fn asked(
     }
 }
 
-fn set(
-    u: TagUnit,
-    what: Setting,
-    level: u32,
-    r: &[u8],
-    bytes: &[u8],
-    out: &mut [u8],
-    at: usize,
-) -> Performed
+fn set(u: TagUnit, what: Setting, level: u32, bytes: &[u8], out: &mut [u8], at: usize) -> Performed
     requires { ⌜ at + lineRoom ≤ length (now out) ⌝ }
-    ensures { λ p. ⌜ Performs (event.asks (settingOf what level (now (r .entry)) (now (bytes .entry)))) u at (now (out .entry)) (p .unit) (p .written) (now (out .exit)) ⌝ }
+    ensures { λ p. ⌜ Performs (event.asks (settingOf what level (now (bytes .entry)))) u at (now (out .entry)) (p .unit) (p .written) (now (out .exit)) ⌝ }
 {
     match what {
         Setting::Pairing(on) => printing::completed(
@@ -110,12 +101,6 @@ fn set(
             at,
         ),
         Setting::Key => printing::completed(tag::account_key(u, bytes), b"answer=key\n", out, at),
-        Setting::Identifier => printing::completed(
-            tag::lend_identifier(u, r, bytes),
-            b"answer=identifier\n",
-            out,
-            at,
-        ),
         Setting::Disconnect => printing::completed(
             tag::disconnect(u),
             b"answer=disconnect\n",

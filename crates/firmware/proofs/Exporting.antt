@@ -2,7 +2,7 @@
 -- whole record.
 use mathlib.Core.Path.{_≡_, refl, sym, ap, _∙_}
 use mathlib.Core.Logic.{⊎-elim}
-use mathlib.Core.Bool.{Bool, true, false, cond, not, _&&_, false≢true}
+use mathlib.Core.Bool.{Bool, true, false, cond, not, false≢true}
 use mathlib.Core.List.{List, _++_}
 use Prim.Native.Nat.{ℕ, _+_, _*_, _≤_, _<_}
 use native.Mathlib.Omega.{arith}
@@ -12,7 +12,7 @@ use lib.ListN.{length, drop, length-append}
 use borrow.Author.Tests.{eqb-true, eqb-false}
 use Rattle.laws.specs.Answer.{Result, gives, refuses, lentAfter}
 use Rattle.laws.proofs.Flags.{true-or-false, clash}
-use Rattle.sizes.specs.Sizes.{answerRoom, accountKeySize, identifierSize, mostKeys, highestBattery}
+use Rattle.sizes.specs.Sizes.{answerRoom, accountKeySize, mostKeys, highestBattery}
 use Rattle.tables.specs.Rows.{among}
 use Rattle.primitive_calls.specs.declared.Ending.{Ending}
 use Rattle.primitive_calls.specs.Calls.{orRefusal, endNumber, numberOf, Ends as Digests}
@@ -24,7 +24,7 @@ use Rattle.unit.specs.declared.Refusal.{Refusal}
 use Rattle.unit.specs.declared.Refusal.the-variants.{NotAuthenticated, InvalidValue, NoConsent, OutOfRange, NotWellFormed, WrongNonce, WrongAccountKey, NoFrame, NoRoom}
 use Rattle.unit.specs.Refusals.{End, refusalNumber, endOf, ending}
 use Rattle.unit.specs.Ringable.{inside}
-use Rattle.unit.specs.Standing.{stands}
+use Rattle.standing.specs.Standing.{stands}
 use Rattle.unit.specs.Change.{spent}
 use Rattle.unit.specs.WellFormed.{wellFormed, settingsLegal, heldKeys}
 use Rattle.unit.specs.Outcome.{Outcome, refusing, formed, answering, Completes, Answers}
@@ -33,8 +33,9 @@ use Rattle.requests.specs.Write.{written, judged}
 use Rattle.time.specs.Time.{tenths}
 use Rattle.time.specs.Passing.{Passes}
 use Rattle.nonces.specs.Nonces.{nonceFits}
-use Rattle.tag.specs.Own.{issuing, pressed, charged, keeping, disconnected, lending, showing}
-use Rattle.tag.specs.Calls.{newUnit, Call, read, write, button, pairing, battery, accountKey, disconnect, identifier, frame, own, lends, guarded, call, elapsed}
+use Rattle.advertising.specs.Showing.{showing}
+use Rattle.tag.specs.Own.{issuing, pressed, charged, keeping, disconnected}
+use Rattle.tag.specs.Calls.{newUnit, Call, read, write, button, pairing, battery, accountKey, disconnect, frame, own, lends, guarded, call, elapsed}
 use Rattle.stored.specs.Record.{decoded, encoded, recordSize}
 use Rattle.stored.proofs.RoundTrip.{other-length, noUnit-malformed}
 use Rattle.exports.specs.Exported.{endedBase, code, resultCode, recordAfter, bytesAfter, endCode, writesBack, Exports, ExportsAnswer, ExportsDigest, Finishes, digestCode}
@@ -103,7 +104,7 @@ pressed-untimed Sound.Silent u = untimed
 pressed-untimed (Sound.Ringing mask volume left) u = untimed
 
 own-untimed : (c : Call) (u : TagUnit) → Untimed (own c u)
-unfolding own issuing written charged keeping disconnected lending showing
+unfolding own issuing written charged keeping disconnected showing
 own-untimed (read nonce) u = either (nonceFits (u .nonces) nonce) untimed untimed
 own-untimed (write w) u =
     either (inside (w .reach) (u .settings .components)) (concluded-untimed (spent u) (judged u (w .bytes) (w .reach))) untimed
@@ -114,8 +115,6 @@ own-untimed (accountKey key) u =
     either (not (eqb (length key) accountKeySize)) untimed
     (either (among key (heldKeys (u .accounts))) untimed (either (ltb (u .accounts .count) mostKeys) untimed untimed))
 own-untimed disconnect u = untimed
-own-untimed (identifier r id) u =
-    either (not (eqb (length r) identifierSize && eqb (length id) identifierSize)) untimed (either (u .identity .held) untimed untimed)
 own-untimed frame u = either (stands u) untimed untimed
 
 guarded-untimed : (lent : Bool) (room : ℕ) (u : TagUnit) {o : Outcome} → Untimed o → Untimed (guarded lent room u o)

@@ -4,7 +4,7 @@
 ghost use mathlib.Core.Bool.{not};
 ghost use lib.Dec.{eqb};
 ghost use lib.ListN.{length};
-ghost use Rattle.primitive_calls.specs.Calls.{hashed, authenticated, encrypted, decrypted};
+ghost use Rattle.primitive_calls.specs.Calls.{hashed, authenticated, encrypted, decrypted, encrypted256};
 ghost use Rattle.desk.specs.Exported.{partsRead, partsReadWithR, ExportsReading};
 ghost use Rattle.tag.specs.Calls.{newUnit, call, elapsed as elapsedOf};
 ghost use Rattle.tag.specs.Calls as of;
@@ -150,18 +150,6 @@ pub extern "C" fn tag_disconnect(bytes: &mut [u8]) -> u64
     exports::finish(bytes, after, reply)
 }
 
-// Lends the identifier for the current window. Refusals: 2, 1, 5.
-#[no_mangle]
-pub extern "C" fn tag_lend_identifier(bytes: &mut [u8], r: &[u8], id: &[u8]) -> u64
-    ensures { λ code. ⌜ Exports (call (of.identifier (now (r .entry)) (now (id .entry))) 0 (decoded (now (bytes .entry)))) code (now (bytes .entry)) (now (bytes .exit)) ⌝ }
-{
-    let unit = stored::decode(bytes);
-    let step = tag::lend_identifier(unit, r, id);
-    let after = step.unit;
-    let reply = step.reply;
-    exports::finish(bytes, after, reply)
-}
-
 // The advertised frame. Refusals: 6, 2, 5.
 #[no_mangle]
 pub extern "C" fn tag_frame(bytes: &mut [u8], answer: &mut [u8]) -> u64
@@ -223,5 +211,14 @@ pub extern "C" fn tag_aes128_decrypt(key: &[u8], block: &[u8], answer: &mut [u8]
     ensures { λ code. ⌜ ExportsDigest (decrypted (now (key .entry)) (now (block .entry)) (length (now (answer .entry)))) code (now (answer .entry)) (now (answer .exit)) ⌝ }
 {
     let end = primitive_calls::aes128_decrypt(key, block, answer);
+    exports::digest_code(end, BLOCK_SIZE as u64)
+}
+
+// AES-256 of a block of 16 bytes under a key of 32 bytes, into 16 bytes. Refusal: 7.
+#[no_mangle]
+pub extern "C" fn tag_aes256_encrypt(key: &[u8], block: &[u8], answer: &mut [u8]) -> u64
+    ensures { λ code. ⌜ ExportsDigest (encrypted256 (now (key .entry)) (now (block .entry)) (length (now (answer .entry)))) code (now (answer .entry)) (now (answer .exit)) ⌝ }
+{
+    let end = primitive_calls::aes256_encrypt(key, block, answer);
     exports::digest_code(end, BLOCK_SIZE as u64)
 }

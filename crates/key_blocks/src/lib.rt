@@ -1,6 +1,5 @@
 // The identity key as it travels: two blocks under the owner key.
 ghost use mathlib.Core.Path.{_≡_};
-ghost use mathlib.Core.List.{_++_};
 ghost use Prim.Native.Nat.{_+_, _≤_};
 ghost use lib.ListN.{length, take, drop};
 ghost use Rattle.sizes.specs.Sizes.{blockSize, identityKeySize};
@@ -17,16 +16,6 @@ fn block_at(s: &[u8], at: usize) -> [u8; BLOCK_SIZE]
     octets::sixteen(&s[at..at + BLOCK_SIZE])
 }
 
-// Two blocks, one after the other.
-fn joined(a: [u8; BLOCK_SIZE], b: [u8; BLOCK_SIZE]) -> [u8; IDENTITY_KEY_SIZE]
-    ensures { λ r. ⌜ r ≡ a ++ b ⌝ }
-{
-    let mut both = [0u8; IDENTITY_KEY_SIZE];
-    octets::put(&mut both, 0, &a);
-    octets::put(&mut both, BLOCK_SIZE, &b);
-    both
-}
-
 // The identity key that 0x02 carries, decrypted with the owner key.
 pub fn decrypted_key(key: [u8; ACCOUNT_KEY_SIZE], cipher: &[u8]) -> [u8; IDENTITY_KEY_SIZE]
     requires { ⌜ identityKeySize ≤ length (now cipher) ⌝ }
@@ -37,7 +26,7 @@ pub fn decrypted_key(key: [u8; ACCOUNT_KEY_SIZE], cipher: &[u8]) -> [u8; IDENTIT
     let plain = primitives::decrypt_pair(key, first, second);
     let head = plain.first;
     let tail = plain.second;
-    joined(head, tail)
+    octets::joined(head, tail)
 }
 
 // The identity key, encrypted with the owner key.
@@ -52,5 +41,5 @@ pub fn encrypted_key(
     let cipher = primitives::encrypt_pair(key, first, second);
     let head = cipher.first;
     let tail = cipher.second;
-    joined(head, tail)
+    octets::joined(head, tail)
 }

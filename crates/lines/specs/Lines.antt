@@ -5,7 +5,7 @@ use mathlib.Core.List.{List, []}
 use mathlib.Core.Option.{Option, none, some}
 use lib.IntN.{ℤ}
 use Rattle.laws.specs.Bytes.{sameBytes}
-use Rattle.tag.specs.Calls.{Call, read, write, button, pairing, battery, accountKey, disconnect, identifier, frame}
+use Rattle.tag.specs.Calls.{Call, read, write, button, pairing, battery, accountKey, disconnect, frame}
 use Rattle.notation.specs.Text.{ascii}
 use Rattle.notation.specs.Reading.{after, unsigned, signed, flag, bytes, oneByte}
 use Rattle.events.specs.Event.{Event, asks, elapsed}
@@ -23,8 +23,6 @@ pub data Awaited : Type 0 where
   on : Awaited
   level : Awaited
   keyBytes : Awaited
-  r : Awaited
-  id : List ℕ → Awaited
 
 -- "key=value lines in a fixed order": which line is to stand next, an event's name or one inside the settings or an event
 pub data Expected : Type 0 where
@@ -55,8 +53,7 @@ named name =
     (cond (sameBytes name (ascii "battery")) (follows level)
     (cond (sameBytes name (ascii "key")) (follows keyBytes)
     (cond (sameBytes name (ascii "disconnect")) (brings (asks disconnect))
-    (cond (sameBytes name (ascii "identifier")) (follows r)
-    (cond (sameBytes name (ascii "frame")) (brings (asks frame)) breaks)))))))))
+    (cond (sameBytes name (ascii "frame")) (brings (asks frame)) breaks))))))))
 
 -- a line inside the settings or an event: the value behind its key
 unfoldable pub held : Awaited → List ℕ → Line
@@ -70,8 +67,6 @@ held tenths l = given (after (ascii "tenths=") l) (λ v. given (unsigned v) (λ 
 held on l = given (after (ascii "on=") l) (λ v. given (flag v) (λ b. brings (asks (pairing b))))
 held level l = given (after (ascii "level=") l) (λ v. given (unsigned v) (λ n. brings (asks (battery n))))
 held keyBytes l = given (after (ascii "bytes=") l) (λ v. given (bytes v) (λ b. brings (asks (accountKey b))))
-held r l = given (after (ascii "r=") l) (λ v. given (bytes v) (λ b. follows (id b)))
-held (id b) l = given (after (ascii "id=") l) (λ v. given (bytes v) (λ i. brings (asks (identifier b i))))
 
 -- a line where one is expected
 unfoldable pub taken : Expected → List ℕ → Line

@@ -15,7 +15,7 @@ use Rattle.lines.specs.declared.Line as told
 use Rattle.lines.specs.declared.Line.the-variants as toldAs
 use Rattle.lines.specs.declared.Told.{Told}
 use Rattle.lines.specs.Lines as lines
-use Rattle.lines.specs.Lines.{Awaited, Expected, inside, power, components, volume, nonce, «data», reach, tenths, on, level, keyBytes, r, id, Line, follows, brings, setsUp, breaks, given}
+use Rattle.lines.specs.Lines.{Awaited, Expected, inside, power, components, volume, nonce, «data», reach, tenths, on, level, keyBytes, Line, follows, brings, setsUp, breaks, given}
 
 -- what is expected, with what was read before it
 abbrev pub awaiting : code.Awaited → ℤ → ℕ → List ℕ → Awaited
@@ -29,8 +29,6 @@ awaiting awaited.Tenths p c b = tenths
 awaiting awaited.On p c b = on
 awaiting awaited.Level p c b = level
 awaiting awaited.KeyBytes p c b = keyBytes
-awaiting awaited.R p c b = r
-awaiting awaited.Id p c b = id b
 
 abbrev pub expecting : Next → ℤ → ℕ → List ℕ → Expected
 expecting next.Event p c b = lines.event

@@ -27,8 +27,6 @@ pub enum Awaited {
     On,
     Level,
     KeyBytes,
-    R,
-    Id,
 }
 
 // Which line is expected: an event's name, or one inside the settings or an event.
@@ -85,13 +83,6 @@ fn inside(awaited: Awaited, line: &[u8], into: &mut [u8]) -> Told
             line,
             b"bytes=",
             Line::Brings(Event::Sets(Setting::Key)),
-            into,
-        ),
-        Awaited::R => octets(line, b"r=", Line::Keeps(Awaited::Id), into),
-        Awaited::Id => octets(
-            line,
-            b"id=",
-            Line::Brings(Event::Sets(Setting::Identifier)),
             into,
         ),
     }
@@ -223,9 +214,6 @@ fn named(name: &[u8]) -> Line
     }
     if octets::same(name, b"disconnect") {
         return Line::Brings(Event::Sets(Setting::Disconnect));
-    }
-    if octets::same(name, b"identifier") {
-        return Line::Follows(Awaited::R);
     }
     if octets::same(name, b"frame") {
         return Line::Brings(Event::Asks(Ask::Frame));

@@ -1,3 +1,4 @@
 pub mod Pasting
 pub mod Numbers
 pub mod Gathered
+pub mod LowBytes

@@ -1,6 +1,7 @@
 // What every crate does with bytes: put them into others, compare them, take some of them as an array, and read and write big-endian
 // numbers. Inner calls: those that ask something of their caller say so.
 ghost use mathlib.Core.Path.{_≡_};
+ghost use mathlib.Core.List.{_++_};
 ghost use Prim.Native.Nat.{_+_, _≤_};
 ghost use lib.ListN.{length};
 ghost use Rattle.laws.specs.Bytes.{sameBytes, allZero, bigEndian};
@@ -83,6 +84,16 @@ pub fn thirty_two(s: &[u8]) -> [u8; 32]
     let mut bytes = [0u8; 32];
     put(&mut bytes, 0, s);
     bytes
+}
+
+// Two sixteens, one after the other.
+pub fn joined(a: [u8; 16], b: [u8; 16]) -> [u8; 32]
+    ensures { λ r. ⌜ r ≡ a ++ b ⌝ }
+{
+    let mut both = [0u8; 32];
+    put(&mut both, 0, &a);
+    put(&mut both, 16, &b);
+    both
 }
 
 // The number of up to eight bytes, the most significant first.

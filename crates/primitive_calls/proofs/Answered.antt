@@ -97,19 +97,19 @@ module _ (key message before : List ℕ) where
   authenticated-given bytes after end k m size same g =
       rw (le-leb _ _ k) (given bytes before (leb (length message) longestMessage) 32 (HMAC key message) end after (le-leb _ _ m) size same g)
 
--- both ways of the cipher: `done` is the block encrypted or decrypted
-module _ (key block done before : List ℕ) where
+-- the cipher under a key of `size` bytes, each way: `done` is the block encrypted or decrypted
+module _ (size : ℕ) (key block done before : List ℕ) where
   abbrev pub blockResult : Result
-  blockResult = orRefusal (eqb (length key) 16 && (eqb (length block) 16 && eqb (length before) 16)) done
+  blockResult = orRefusal (eqb (length key) size && (eqb (length block) 16 && eqb (length before) 16)) done
 
-  pub block-refused : (length key ≡ 16 → length block ≡ 16 → ⊥) → Ends blockResult Ending.WrongSize before before
+  pub block-refused : (length key ≡ size → length block ≡ 16 → ⊥) → Ends blockResult Ending.WrongSize before before
   block-refused fails =
       refused done before _
       (λ t.
-      let p = three (eqb (length key) 16) (eqb (length block) 16) (eqb (length before) 16) t in
+      let p = three (eqb (length key) size) (eqb (length block) 16) (eqb (length before) 16) t in
       fails (eqb→eq _ _ (p .0)) (eqb→eq _ _ (p .1 .0)))
 
-  pub block-given : (bytes after : List ℕ) (end : Ending) → length key ≡ 16 → length block ≡ 16 → length bytes ≡ 16 → bytes ≡ done
+  pub block-given : (bytes after : List ℕ) (end : Ending) → length key ≡ size → length block ≡ 16 → length bytes ≡ 16 → bytes ≡ done
       → Ends (exactly bytes before) end before after → Ends blockResult end before after
-  block-given bytes after end k b size same g =
-      rw (eq-eqb _ _ k) (given bytes before (eqb (length block) 16) 16 done end after (eq-eqb _ _ b) size same g)
+  block-given bytes after end k b sized same g =
+      rw (eq-eqb _ _ k) (given bytes before (eqb (length block) 16) 16 done end after (eq-eqb _ _ b) sized same g)

@@ -7,7 +7,7 @@ use lib.Dec.{leb, eqb}
 use lib.ListN.{length}
 use Rattle.sizes.specs.Sizes.{longestMessage}
 use Rattle.laws.specs.Answer.{Result, gives, refuses, lentAfter}
-use Rattle.primitives.specs.Standards.{SHA256, HMAC, AES128, InvAES128}
+use Rattle.primitives.specs.Standards.{SHA256, HMAC, AES128, InvAES128, AES256}
 use Rattle.primitive_calls.specs.declared.Ending.{Ending}
 
 -- "7: message or HMAC key over 65,535 bytes; AES key or block not 16 bytes; hash answer not 32 bytes, block answer not 16"
@@ -27,6 +27,10 @@ encrypted key block room = orRefusal (eqb (length key) 16 && (eqb (length block)
 
 unfoldable pub decrypted : List ℕ → List ℕ → ℕ → Result
 decrypted key block room = orRefusal (eqb (length key) 16 && (eqb (length block) 16 && eqb room 16)) (InvAES128 key block)
+
+-- "AES-256 refuses with 7 unless its key has 32 bytes; AES-128 keeps its 16"
+unfoldable pub encrypted256 : List ℕ → List ℕ → ℕ → Result
+encrypted256 key block room = orRefusal (eqb (length key) 32 && (eqb (length block) 16 && eqb room 16)) (AES256 key block)
 
 -- The paper's number for each end of a call: 0 where it is no refusal
 abbrev pub endNumber : Ending → ℕ

@@ -1,13 +1,14 @@
 // The hash, the message authentication code and the block cipher as public calls on any bytes, which refuse a wrong size with 7.
 use primitives::decrypt;
 use primitives::encrypt;
+use primitives::encrypt256;
 use primitives::hash_pair;
 use primitives::mac;
 ghost use mathlib.Core.Path.{_≡_};
 ghost use mathlib.Core.List.{_++_};
 ghost use lib.Dec.{eqb};
 ghost use lib.ListN.{length};
-ghost use Rattle.primitive_calls.specs.Calls.{Ends, orRefusal, hashed, authenticated, encrypted, decrypted};
+ghost use Rattle.primitive_calls.specs.Calls.{Ends, orRefusal, hashed, authenticated, encrypted, decrypted, encrypted256};
 
 // The end of a call: the answer is written, or a length is not as the call asks (refusal 7) and nothing is written.
 pub enum Ending {
@@ -18,8 +19,11 @@ pub enum Ending {
 // The longest message and the longest HMAC key.
 const LONGEST: usize = sizes::LONGEST_MESSAGE;
 
-// The bytes of an AES key and of a block.
+// The bytes of a block, and of a key of AES-128.
 const BLOCK: usize = sizes::BLOCK_SIZE;
+
+// The bytes of a key of AES-256.
+const LONG_KEY: usize = 32;
 
 // SHA-256 of a message of up to 65,535 bytes, into an answer of 32 bytes. Refusal: 7.
 pub fn sha256(message: &[u8], answer: &mut [u8]) -> Ending
@@ -96,12 +100,35 @@ pub fn aes128_decrypt(key: &[u8], block: &[u8], answer: &mut [u8]) -> Ending
     give(answer, &done)
 }
 
-// The sixteen bytes of a slice.
+// AES-256 of a block of 16 bytes under a key of 32 bytes, into an answer of 16 bytes. Refusal: 7.
+pub fn aes256_encrypt(key: &[u8], block: &[u8], answer: &mut [u8]) -> Ending
+    ensures { λ r. ⌜ Ends (encrypted256 (now (key .entry)) (now (block .entry)) (length (now (answer .entry)))) r (now (answer .entry)) (now (answer .exit)) ⌝ }
+{
+    if key.len() != LONG_KEY {
+        return Ending::WrongSize;
+    }
+    if block.len() != BLOCK {
+        return Ending::WrongSize;
+    }
+    let done = encrypt256(thirty_two(key), sixteen(block));
+    give(answer, &done)
+}
+
+// The bytes of a slice as an array: one function for each length that is asked for.
 fn sixteen(s: &[u8]) -> [u8; 16]
     requires { ⌜ length (now s) ≡ 16 ⌝ }
     ensures { λ r. ⌜ r ≡ now (s .entry) ⌝ }
 {
     let mut bytes = [0u8; 16];
+    give(&mut bytes, s);
+    bytes
+}
+
+fn thirty_two(s: &[u8]) -> [u8; 32]
+    requires { ⌜ length (now s) ≡ 32 ⌝ }
+    ensures { λ r. ⌜ r ≡ now (s .entry) ⌝ }
+{
+    let mut bytes = [0u8; 32];
     give(&mut bytes, s);
     bytes
 }

@@ -20,7 +20,7 @@ use Rattle.wire.specs.Signing.{recoveryKey}
 use Rattle.wire.specs.Shape.{Request, provenSize}
 use Rattle.key_blocks.specs.KeyBlocks.{decryptedKey, encryptedKey}
 use Rattle.unit.specs.Change.{withAccounts, withOwner}
-use Rattle.unit.specs.Standing.{shownIdentifier, stands}
+use Rattle.standing.specs.Standing.{shownIdentifier, stands, Current}
 use Rattle.unit.specs.WellFormed.{heldKeys, ownerKey, accountsLegal, ownerLegal}
 use Rattle.unit.specs.declared.TagUnit.{TagUnit}
 use Rattle.unit.specs.declared.Accounts.{Accounts}
@@ -178,10 +178,13 @@ state-read u q place {key} {shown} {owned} {owner} {bits} e k o is b s =
     = is ∙ ap (λ (l : List (List ℕ)). isKey (ownerKey owned) (getD l place [])) (owned-held (u .accounts) place o) in
     rw (e, k, b, whose, s, o)
 
-pub shown-all : (u : TagUnit) → stands u ≡ true → u .identifier .id ≡ shownIdentifier u
-unfolding shownIdentifier
-shown-all u e = rw e
+module _ (u : TagUnit) {some : Bool} {r id : List ℕ} (c : Current u some r id) where
+  pub shown-all : some ≡ true → id ≡ shownIdentifier u
+  unfolding shownIdentifier
+  shown-all e =
+      let there : stands u ≡ true = sym (c .someIs) ∙ e in
+      rw there (c .idIs there)
 
-pub shown-none : (u : TagUnit) → stands u ≡ false → [] ≡ shownIdentifier u
-unfolding shownIdentifier
-shown-none u e = rw e
+  pub shown-none : some ≡ false → [] ≡ shownIdentifier u
+  unfolding shownIdentifier
+  shown-none e = rw (sym (c .someIs) ∙ e)

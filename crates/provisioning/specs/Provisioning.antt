@@ -19,7 +19,7 @@ use Rattle.unit.specs.declared.Settings.{Settings}
 use Rattle.unit.specs.declared.Accounts.{Accounts}
 use Rattle.unit.specs.declared.Owner.{Owner}
 use Rattle.unit.specs.WellFormed.{heldKeys, ownerKey}
-use Rattle.unit.specs.Standing.{shownIdentifier}
+use Rattle.standing.specs.Standing.{shownIdentifier}
 use Rattle.unit.specs.Change.{fresh, withClock, withNonces, withAccounts, withOwner, withWaiting, identityKey, withBattery, withPairing, keyed, keyInForce}
 use Rattle.authentication.specs.Judgement.{Judgement, accepts, notAuthenticated, noConsent, unless, under, lastNonce, tagged, proves, answered, usedKey, signedByOwner}
 

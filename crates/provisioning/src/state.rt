@@ -18,7 +18,6 @@ use unit::Owner;
 use unit::Refusal;
 use unit::TagUnit;
 use unit::change;
-use unit::standing;
 use wire::Head;
 
 const STATE_SIZE: usize = 1 + IDENTIFIER_SIZE;
@@ -82,8 +81,8 @@ pub fn read_state(u: TagUnit, h: Head, additional: &[u8]) -> Verdict
     let bits = state_bits(u.identity.held, owns(owned, place));
     let mut after = u;
     after.accounts = owned;
-    if standing::stands(u) {
-        let i = u.identifier;
+    let i = standing::current(u);
+    if i.some {
         let id = i.id;
         let data = state_of(bits, id);
         return answering::granted(after, key, &data);

@@ -2,11 +2,10 @@
 ghost use mathlib.Core.Path.{_≡_};
 ghost use Prim.Native.Nat.{_+_, _≤_};
 ghost use lib.ListN.{length};
-ghost use Rattle.sizes.specs.Sizes.{nonceSize, earlierRoom, keysRoom, identityKeySize, identifierSize};
+ghost use Rattle.sizes.specs.Sizes.{nonceSize, earlierRoom, keysRoom, identityKeySize};
 ghost use Rattle.octets.specs.Put.{Puts};
 ghost use Rattle.record_fields.specs.Kinds.{plain};
 use sizes::EARLIER_ROOM;
-use sizes::IDENTIFIER_SIZE;
 use sizes::IDENTITY_KEY_SIZE;
 use sizes::KEYS_ROOM;
 use sizes::NONCE_SIZE;
@@ -72,21 +71,5 @@ pub fn identity_key(from: &[u8], at: usize) -> [u8; IDENTITY_KEY_SIZE]
 {
     let mut bytes = [0u8; IDENTITY_KEY_SIZE];
     octets::put(&mut bytes, 0, &from[at..at + IDENTITY_KEY_SIZE]);
-    bytes
-}
-
-pub fn put_identifier(to: &mut [u8], at: usize, bytes: [u8; IDENTIFIER_SIZE])
-    requires { ⌜ at + identifierSize ≤ length (now to) ⌝ }
-    ensures { λ _. ⌜ Puts at identifierSize (plain identifierSize .bytes bytes) (now (to .entry)) (now (to .exit)) ⌝ }
-{
-    octets::put(to, at, &bytes);
-}
-
-pub fn identifier(from: &[u8], at: usize) -> [u8; IDENTIFIER_SIZE]
-    requires { ⌜ at + identifierSize ≤ length (now from) ⌝ }
-    ensures { λ r. ⌜ r ≡ plain identifierSize .value (now (from .entry)) at ⌝ }
-{
-    let mut bytes = [0u8; IDENTIFIER_SIZE];
-    octets::put(&mut bytes, 0, &from[at..at + IDENTIFIER_SIZE]);
     bytes
 }

@@ -1,12 +1,12 @@
 -- Each group is a lawful part: every field is, and a value made of its own fields is itself.
 use mathlib.Core.Path.{_≡_, refl}
 use mathlib.Core.Bool.{true, false}
-use Rattle.sizes.specs.Sizes.{nonceSize, earlierRoom, keysRoom, identityKeySize, identifierSize}
+use Rattle.sizes.specs.Sizes.{nonceSize, earlierRoom, keysRoom, identityKeySize}
 use Rattle.unit.specs.declared.Owner.{Owner}
 use Rattle.unit.specs.declared.Sound.{Sound}
 use Rattle.unit.specs.declared.Protection.{Protection}
 use Rattle.record_fields.specs.Part.{again, whole, Lawful}
-use Rattle.record_parts.specs.Groups.{settingsFields, clockFields, noncesFields, ownerFields, accountsFields, identityFields, soundFields, protectionFields, identifierFields}
+use Rattle.record_parts.specs.Groups.{settingsFields, clockFields, noncesFields, ownerFields, accountsFields, identityFields, soundFields, protectionFields}
 use Rattle.record_fields.specs.Kinds.{tenthsSize, secondsSize, countSize}
 use Rattle.record_fields.proofs.Joining.{whole-lawful}
 use Rattle.record_fields.proofs.KindsKept.{byte-lawful, plain-lawful, number-lawful, flag-lawful, power-lawful}
@@ -59,10 +59,3 @@ protection-again (Protection.On true) = refl
 pub protection-lawful : Lawful (whole protectionFields)
 unfolding protectionFields
 protection-lawful = whole-lawful protectionFields (tt, byte-lawful) protection-again
-
-pub identifier-lawful : Lawful (whole identifierFields)
-unfolding identifierFields again
-identifier-lawful =
-    whole-lawful identifierFields
-    ((((tt, flag-lawful), plain-lawful identifierSize), plain-lawful identifierSize), number-lawful secondsSize)
-    (λ i. refl)

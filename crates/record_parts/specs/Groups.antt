@@ -5,7 +5,7 @@ use mathlib.Core.Bool.{Bool, cond}
 use mathlib.Core.List.{List}
 use lib.Dec.{eqb}
 use lib.IntN.{ℤ}
-use Rattle.sizes.specs.Sizes.{nonceSize, earlierRoom, keysRoom, identityKeySize, identifierSize}
+use Rattle.sizes.specs.Sizes.{nonceSize, earlierRoom, keysRoom, identityKeySize}
 use Rattle.unit.specs.declared.Settings.{Settings}
 use Rattle.unit.specs.declared.Clock.{Clock}
 use Rattle.nonces.specs.declared.Nonces.{Nonces}
@@ -14,7 +14,6 @@ use Rattle.unit.specs.declared.Owner.{Owner}
 use Rattle.unit.specs.declared.Identity.{Identity}
 use Rattle.unit.specs.declared.Sound.{Sound}
 use Rattle.unit.specs.declared.Protection.{Protection}
-use Rattle.unit.specs.declared.Identifier.{Identifier}
 use Rattle.record_fields.specs.Part.{Fields, making, _then_of_, whole}
 use Rattle.record_fields.specs.Kinds.{tenthsSize, secondsSize, countSize, byteSize, byte, plain, numberOf, flag, flagByte, powerSize, power}
 
@@ -146,17 +145,3 @@ unfoldable pub protectionFields : Fields Protection byteSize Protection
 protectionFields =
     making protectionOf
     then byte of protectionByte
-
-abbrev pub identifierPartSize : ℕ
-identifierPartSize = byteSize + identifierSize + identifierSize + secondsSize
-
-abbrev pub identifierOf : Bool → List ℕ → List ℕ → ℕ → Identifier
-identifierOf h r i w = record { held = h; r = r; id = i; window = w }
-
-unfoldable pub identifierFields : Fields Identifier identifierPartSize Identifier
-identifierFields =
-    making identifierOf
-    then flag of (λ i. i .held)
-    then plain identifierSize of (λ i. i .r)
-    then plain identifierSize of (λ i. i .id)
-    then numberOf secondsSize of (λ i. i .window)

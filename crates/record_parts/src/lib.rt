@@ -2,7 +2,6 @@
 // bytes have room for the group from the place on.
 pub mod accounts;
 pub mod clock;
-pub mod identifier;
 pub mod identity;
 pub mod issued_nonces;
 pub mod owner;

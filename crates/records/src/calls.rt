@@ -50,9 +50,6 @@ fn named(name: &[u8], row: &[u8], record: &mut [u8], answer: &mut [u8]) -> u64 {
     if octets::same(name, b"sleep") {
         return firmware::tag_sleep(record);
     }
-    if octets::same(name, b"identifier") {
-        return lend_identifier(row, record);
-    }
     if octets::same(name, b"frame") {
         return firmware::tag_frame(record, answer);
     }
@@ -75,12 +72,4 @@ fn account_key(row: &[u8], record: &mut [u8]) -> u64 {
     let mut key = [0u8; MOST];
     let count = bytes(row, b"bytes=", &mut key);
     firmware::tag_account_key(record, &key[..count])
-}
-
-fn lend_identifier(row: &[u8], record: &mut [u8]) -> u64 {
-    let mut r = [0u8; MOST];
-    let mut id = [0u8; MOST];
-    let r_count = bytes(row, b"r=", &mut r);
-    let id_count = bytes(row, b"id=", &mut id);
-    firmware::tag_lend_identifier(record, &r[..r_count], &id[..id_count])
 }

@@ -44,7 +44,7 @@ keysRoom = mostKeys * accountKeySize
 abbrev pub identityKeySize : ℕ
 identityKeySize = 32
 
--- "r (20 bytes) and the identifier (20 bytes)"
+-- the identifier of SECP160R1; r is "cut or padded to 160 bits"
 abbrev pub identifierSize : ℕ
 identifierSize = 20
 
@@ -92,9 +92,12 @@ abbrev pub fullConsent : ℕ
 fullConsent = 600
 
 -- "The window is the seconds with the low 10 bits cleared (house: K = 10)". "House" is the paper's word for a choice that it makes
--- where the published rules are silent or disagree
+-- where the published rules are silent or disagree. K is the accessory rules' exponent of the rotation period
+abbrev pub rotationExponent : ℕ
+rotationExponent = 10
+
 abbrev pub windowLength : ℕ
-windowLength = 2 ^ 10
+windowLength = 2 ^ rotationExponent
 
 abbrev pub window : ℕ → ℕ
 window seconds = seconds / windowLength * windowLength

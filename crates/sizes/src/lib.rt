@@ -56,5 +56,7 @@ pub const LONGEST_RING: u16 = 6000;
 
 pub const FULL_CONSENT: u16 = 600;
 
-// Seconds of a window.
+// K, the exponent of the rotation period, and the seconds of a window.
+pub const ROTATION_EXPONENT: u8 = 10;
+
 pub const WINDOW_LENGTH: u32 = 1024;

@@ -12,13 +12,13 @@ use lib.ListN.{length, getD, take, drop}
 use borrow.Author.Tests.{ltb-true, ltb-false}
 use Rattle.laws.specs.Bytes.{number, numberAfter}
 use Rattle.octets.proofs.Numbers.{number-grows}
-use Rattle.sizes.specs.Sizes.{nonceSize, earlierRoom, keysRoom, identityKeySize, identifierSize}
+use Rattle.sizes.specs.Sizes.{nonceSize, earlierRoom, keysRoom, identityKeySize}
 use Rattle.unit.specs.declared.Owner.{Owner}
 use Rattle.unit.specs.declared.Sound.{Sound}
 use Rattle.unit.specs.declared.Protection.{Protection}
 use Rattle.record_fields.specs.Part.{Octets, Part, Fields, making, _then_of_, run, whole, valueOf, Fitting}
 use Rattle.record_fields.specs.Kinds.{byteSize, byte, plain, numberOf, flag, powerSize, power, wordPower, secondsSize, countSize, tenthsSize}
-use Rattle.record_parts.specs.Groups.{settingsFields, clockFields, noncesFields, ownerFields, accountsFields, identityFields, soundFields, protectionByte, protectionFields, identifierFields}
+use Rattle.record_parts.specs.Groups.{settingsFields, clockFields, noncesFields, ownerFields, accountsFields, identityFields, soundFields, protectionByte, protectionFields}
 use Rattle.record_fields.proofs.Placing.{length-run}
 use Rattle.stored.specs.Record.{unitFields, unitSize, recordSize}
 
@@ -157,20 +157,13 @@ unfolding valueOf protectionFields
 protection-filled =
     record { filled = λ b s at h. protection-fits (eqb (getD b (at + 0) 0) 2) (eqb (getD b (at + 0) 0) 0) }
 
-identifier-filled : Filled (whole identifierFields)
-unfolding Fitting valueOf identifierFields
-identifier-filled =
-    record {
-      filled = all-fit identifierFields ((((tt, flag-filled), plain-filled identifierSize), plain-filled identifierSize), number-filled secondsSize);
-    }
-
 -- the unit
 pub unit-filled : (b : List ℕ) → Octets b → length b ≡ recordSize → Fitting unitFields (valueOf unitFields b byteSize)
 unfolding Fitting valueOf unitFields
 unit-filled b s h =
     let room : byteSize + unitSize ≤ length b = omega arith in
     all-fit unitFields
-    (((((((((((((tt, settings-filled), clock-filled), nonces-filled), accounts-filled), identity-filled), identity-filled), sound-filled), plain-filled nonceSize), protection-filled), number-filled tenthsSize), flag-filled), byte-filled), identifier-filled)
+    ((((((((((((tt, settings-filled), clock-filled), nonces-filled), accounts-filled), identity-filled), identity-filled), sound-filled), plain-filled nonceSize), protection-filled), number-filled tenthsSize), flag-filled), byte-filled)
     b
     s
     byteSize

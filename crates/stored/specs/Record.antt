@@ -10,16 +10,15 @@ use Rattle.unit.specs.Change.{noUnit, unitOf}
 use Rattle.unit.specs.declared.TagUnit.{TagUnit}
 use Rattle.record_fields.specs.Part.{Fields, making, _then_of_, whole, bytesOf, valueOf}
 use Rattle.record_fields.specs.Kinds.{byteSize, byte, plain, numberOf, flag, tenthsSize}
-use Rattle.record_parts.specs.Groups.{settingsSize, clockSize, noncesSize, accountsSize, identitySize, soundSize, identifierPartSize, settingsFields, clockFields, noncesFields, accountsFields, identityFields, soundFields, protectionFields, identifierFields}
+use Rattle.record_parts.specs.Groups.{settingsSize, clockSize, noncesSize, accountsSize, identitySize, soundSize, settingsFields, clockFields, noncesFields, accountsFields, identityFields, soundFields, protectionFields}
 
 -- raised by every change of the layout; never 0x00 or 0xFF, so that zeroed and erased memory are no record
 abbrev pub version : ℕ
-version = 0x03
+version = 0x04
 
 abbrev pub unitSize : ℕ
 unitSize =
     settingsSize + clockSize + noncesSize + accountsSize + identitySize + identitySize + soundSize + nonceSize + byteSize + tenthsSize + byteSize + byteSize
-    + identifierPartSize
 
 -- the unit's parts, in order
 unfoldable pub unitFields : Fields TagUnit unitSize TagUnit
@@ -37,7 +36,6 @@ unitFields =
     then numberOf tenthsSize of (λ u. u .consent)
     then flag of (λ u. u .pairing)
     then byte of (λ u. u .battery)
-    then whole identifierFields of (λ u. u .identifier)
 
 abbrev pub recordSize : ℕ
 recordSize = byteSize + unitSize

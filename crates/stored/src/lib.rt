@@ -12,7 +12,6 @@ use record_fields::kinds::TENTHS_SIZE;
 use record_fields::plain;
 use record_parts::accounts;
 use record_parts::clock;
-use record_parts::identifier;
 use record_parts::identity;
 use record_parts::issued_nonces;
 use record_parts::protection;
@@ -23,7 +22,7 @@ use unit::TagUnit;
 use unit::change;
 
 // Raised by every change of the layout; never 0x00 or 0xFF, so that zeroed and erased memory are no record.
-pub const VERSION: u8 = 0x03;
+pub const VERSION: u8 = 0x04;
 
 const VERSION_AT: usize = 0;
 
@@ -51,10 +50,8 @@ const PAIRING_AT: usize = CONSENT_AT + TENTHS_SIZE;
 
 const BATTERY_AT: usize = PAIRING_AT + BYTE_SIZE;
 
-const IDENTIFIER_AT: usize = BATTERY_AT + BYTE_SIZE;
-
 // The bytes of a record.
-pub const RECORD_SIZE: usize = IDENTIFIER_AT + identifier::SIZE;
+pub const RECORD_SIZE: usize = BATTERY_AT + BYTE_SIZE;
 
 // Writes the record of a unit.
 pub fn encode(bytes: &mut [u8], u: TagUnit)
@@ -70,7 +67,6 @@ pub fn encode(bytes: &mut [u8], u: TagUnit)
     let sound = u.sound;
     let ring_nonce = u.ring_nonce;
     let protection = u.protection;
-    let identifier = u.identifier;
     kinds::put_byte(bytes, VERSION_AT, VERSION);
     settings::put(bytes, SETTINGS_AT, settings);
     clock::put(bytes, CLOCK_AT, clock);
@@ -84,7 +80,6 @@ pub fn encode(bytes: &mut [u8], u: TagUnit)
     kinds::put_tenths(bytes, CONSENT_AT, u.consent);
     kinds::put_flag(bytes, PAIRING_AT, u.pairing);
     kinds::put_byte(bytes, BATTERY_AT, u.battery);
-    identifier::put(bytes, IDENTIFIER_AT, identifier);
 }
 
 // The unit whose fields stand in these bytes, each at its place.
@@ -104,7 +99,6 @@ fn fields(bytes: &[u8]) -> TagUnit
     let consent = kinds::tenths(bytes, CONSENT_AT);
     let pairing = kinds::flag(bytes, PAIRING_AT);
     let battery = bytes[BATTERY_AT];
-    let identifier = identifier::read(bytes, IDENTIFIER_AT);
     TagUnit {
         settings,
         clock,
@@ -118,7 +112,6 @@ fn fields(bytes: &[u8]) -> TagUnit
         consent,
         pairing,
         battery,
-        identifier,
     }
 }
 

@@ -11,7 +11,8 @@ use Rattle.unit.specs.Change.{fresh, noUnit, withPairing}
 use Rattle.unit.specs.Outcome.{Outcome, giving, refusing, formed, answering}
 use Rattle.requests.specs.Write.{written}
 use Rattle.time.specs.Time.{tenths}
-use Rattle.tag.specs.Own.{issuing, pressed, charged, keeping, disconnected, lending, showing}
+use Rattle.advertising.specs.Showing.{showing}
+use Rattle.tag.specs.Own.{issuing, pressed, charged, keeping, disconnected}
 
 -- A new unit: "settings .. out of range": 1; "A new unit checks only 1"
 unfoldable pub newUnit : ℤ → ℕ → ℕ → Outcome
@@ -33,7 +34,6 @@ pub data Call : Type 0 where
   battery : (level : ℕ) → Call
   accountKey : (key : List ℕ) → Call
   disconnect : Call
-  identifier : (r id : List ℕ) → Call
   frame : Call
 
 -- what it does on a unit that passed the guards
@@ -45,7 +45,6 @@ own (pairing on) u = giving [] (withPairing on u)
 own (battery level) u = charged level u
 own (accountKey key) u = keeping key u
 own disconnect u = disconnected u
-own (identifier r id) u = lending r id u
 own frame u = showing u
 
 -- "Calls with answer bytes: read, write, button, elapsed, frame"
@@ -57,7 +56,6 @@ lends (pairing on) = false
 lends (battery level) = false
 lends (accountKey key) = false
 lends disconnect = false
-lends (identifier r id) = false
 lends frame = true
 
 -- "Order: 6, 2, then the call's own": 6 only where there are answer bytes

@@ -1,21 +1,18 @@
 -- What each call does on a unit that passed the guards: its own refusals, in order, and what becomes of the unit.
 use Prim.Native.Nat.{ℕ}
-use mathlib.Core.Bool.{Bool, true, false, cond, not, _&&_}
+use mathlib.Core.Bool.{Bool, true, cond, not, _&&_}
 use mathlib.Core.List.{List, [], _∷_}
 use lib.Dec.{eqb, leb, ltb}
 use lib.ListN.{length}
-use Rattle.sizes.specs.Sizes.{accountKeySize, identifierSize, mostKeys, highestBattery, fullConsent, window}
+use Rattle.sizes.specs.Sizes.{accountKeySize, mostKeys, highestBattery, fullConsent}
 use Rattle.tables.specs.Rows.{among}
 use Rattle.nonces.specs.Nonces.{nonceFits, withIssued}
 use Rattle.unit.specs.declared.TagUnit.{TagUnit}
 use Rattle.unit.specs.declared.Sound.{Sound}
-use Rattle.unit.specs.declared.Protection.{Protection}
 use Rattle.unit.specs.WellFormed.{heldKeys}
-use Rattle.unit.specs.Change.{silenced, withNonces, withAccounts, withNewKey, withConsent, withPairing, withBattery, withIdentity, withWaiting, withIdentifier, noIdentity, noIdentifier, keyed, keyInForce}
-use Rattle.unit.specs.Standing.{stands}
+use Rattle.unit.specs.Change.{silenced, withNonces, withAccounts, withNewKey, withConsent, withPairing, withBattery, withIdentity, withWaiting, noIdentity, keyInForce}
 use Rattle.unit.specs.Outcome.{Outcome, giving, refusing}
 use Rattle.wire.specs.Signing.{version, stopNotice, byButton}
-use Rattle.frame.specs.Frame.{rendered, flagsFor}
 
 -- Read: "gives 0x01 and the lent nonce (9 bytes) and makes that nonce live, replacing any other"; 3 for a nonce that doesn't fit
 unfoldable pub issuing : List ℕ → TagUnit → Outcome
@@ -43,32 +40,10 @@ keeping key u =
     (giving [] (withAccounts (withNewKey key (u .accounts)) u))
     (refusing 4 u)))
 
--- Disconnect: by source document 004 the new key "takes effect right after the connection ends"; "Sound ends and the identifier is dropped at a
--- disconnect that brings a waiting key in, no longer at the write; any other disconnect changes nothing"
+-- Disconnect: by source document 004 the new key "takes effect right after the connection ends"; "Sound ends .. at a disconnect that brings a
+-- waiting key in, no longer at the write; any other disconnect changes nothing"
 abbrev pub broughtIn : TagUnit → TagUnit
-broughtIn u = withWaiting noIdentity (withIdentity (u .waiting) (withIdentifier noIdentifier (silenced u)))
+broughtIn u = withWaiting noIdentity (withIdentity (u .waiting) (silenced u))
 
 unfoldable pub disconnected : TagUnit → Outcome
 disconnected u = giving [] (cond (u .waiting .held) (broughtIn u) u)
-
--- "for a lent identifier .. 1, then 5"; it is lent for the current window
-unfoldable pub lending : List ℕ → List ℕ → TagUnit → Outcome
-lending r id u =
-    cond (not (eqb (length r) identifierSize && eqb (length id) identifierSize)) (refusing 1 u)
-    (cond (keyed u)
-    (giving [] (withIdentifier (record { held = true; r = r; id = id; window = window (u .clock .seconds) }) u))
-    (refusing 5 u))
-
--- Frame: "Refusal 5 without a key or an identifier for the current window"
-abbrev pub protected : Protection → Bool
-protected Protection.Off = false
-protected (Protection.On skip) = true
-
-unfoldable pub showing : TagUnit → Outcome
-showing u =
-    cond (stands u)
-    (giving
-    (rendered identifierSize (u .identifier .id) (protected (u .protection))
-    (flagsFor (u .battery) (protected (u .protection)) (u .identifier .r)))
-    u)
-    (refusing 5 u)

@@ -5,14 +5,12 @@ ghost use Rattle.tag.specs.Own.{broughtIn};
 use unit::TagUnit;
 use unit::change;
 
-// The unit with the waiting key in force: silent, and without an identifier.
+// The unit with the waiting key in force, silent.
 fn brought_in(u: TagUnit) -> TagUnit
     ensures { λ r. ⌜ r ≡ broughtIn u ⌝ }
 {
     let key = u.waiting;
     let mut after = change::silenced(u);
-    let i = change::no_identifier();
-    after.identifier = i;
     after.identity = key;
     let none = change::no_identity();
     after.waiting = none;

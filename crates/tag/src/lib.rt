@@ -26,9 +26,7 @@ use unit::end;
 use unit::well_formed;
 
 mod accounts;
-mod advertising;
 mod connection;
-mod identifier;
 mod nonce;
 mod press;
 
@@ -165,8 +163,7 @@ pub fn account_key(u: TagUnit, key: &[u8]) -> Step
     end::refuse(u, Refusal::NotWellFormed)
 }
 
-// The phone has hung up: an identity key that waits comes into force, a ring ends without a notice and the lent identifier is dropped. Without one
-// nothing changes. Refusal: 2.
+// The phone has hung up: an identity key that waits comes into force, and a ring ends without a notice. Without one nothing changes. Refusal: 2.
 pub fn disconnect(u: TagUnit) -> Step
     ensures { λ r. ⌜ Completes (call of.disconnect 0 u) (r .unit) (r .reply) ⌝ }
 {
@@ -176,17 +173,8 @@ pub fn disconnect(u: TagUnit) -> Step
     end::refuse(u, Refusal::NotWellFormed)
 }
 
-// Lends the identifier for the current window, with its r. Refusals: 2, 1, 5.
-pub fn lend_identifier(u: TagUnit, r: &[u8], id: &[u8]) -> Step
-    ensures { λ s. ⌜ Completes (call (of.identifier (now (r .entry)) (now (id .entry))) 0 u) (s .unit) (s .reply) ⌝ }
-{
-    if well_formed::well_formed(u) {
-        return identifier::lent(u, r, id);
-    }
-    end::refuse(u, Refusal::NotWellFormed)
-}
-
-// The advertised frame, 28 or 29 bytes. Refusals: 6, 2, 5.
+// The advertised frame, 28 or 29 bytes, of the identifier of the current window under the identity key in force. It takes a multiple on the curve. Refusals: 6,
+// 2, 5 without such a key or where r is 0.
 pub fn advertise(u: TagUnit, answer: &mut [u8]) -> Step
     ensures { λ r. ⌜ Answers (call of.frame (length (now (answer .entry))) u) (r .unit) (r .reply) (now (answer .entry)) (now (answer .exit)) ⌝ }
 {

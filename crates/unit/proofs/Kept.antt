@@ -1,22 +1,20 @@
 -- What keeps a unit well formed: the fresh unit is, and each change of specs/Change keeps it so under its own condition.
 -- Each law goes by the lines: those that a change does not touch are the unit's own.
-use Prim.Native.Nat.{ℕ, _%_, _≤_, _<_}
+use Prim.Native.Nat.{ℕ, _≤_, _<_}
 use mathlib.Core.Path.{_≡_, refl}
-use mathlib.Core.Bool.{Bool, true, false, not, _&&_, _||_, false≢true}
+use mathlib.Core.Bool.{Bool, true, false, not, _&&_, _||_}
 use mathlib.Core.List.{List}
 use mathlib.Core.Logic.{_⊎_, inl, inr}
-use native.Mathlib.Omega.{arith}
-use lib.Dec.{eqb}
 use lib.ListN.{length}
 use borrow.Author.Needs.{needs}
-use borrow.Author.Tests.{lt-ltb, eq-eqb}
+use borrow.Author.Tests.{lt-ltb}
 use Rattle.laws.specs.Bytes.{allZero}
-use Rattle.laws.proofs.Flags.{and-right, both, or-left, or-right, or-rest, true-or-false}
+use Rattle.laws.proofs.Flags.{and-right, or-left, or-right, or-rest, true-or-false}
 use Rattle.laws.proofs.Same.{replicate-zeros}
-use Rattle.unit.specs.Change.{fresh, noIdentity, identityKey, noIdentifier, withClock, withNonces, withAccounts, withOwner, withNewKey, withIdentity, withWaiting, withProtection, withConsent, withPairing, withBattery, withIdentifier, withSound, silenced, spent}
-use Rattle.sizes.specs.Sizes.{accountKeySize, identityKeySize, mostKeys, nonceSize, fullConsent, highestBattery, windowLength, window}
+use Rattle.unit.specs.Change.{fresh, noIdentity, identityKey, withClock, withNonces, withAccounts, withOwner, withNewKey, withIdentity, withWaiting, withProtection, withConsent, withPairing, withBattery, withSound, silenced, spent}
+use Rattle.sizes.specs.Sizes.{accountKeySize, identityKeySize, mostKeys, nonceSize, fullConsent, highestBattery}
 use Rattle.tables.specs.Rows.{rows, among, distinct}
-use Rattle.unit.specs.WellFormed.{settingsLegal, heldKeys, ownerLegal, owned, identityLegal, soundLegal, protectionLegal, identifierLegal, wellFormed}
+use Rattle.unit.specs.WellFormed.{settingsLegal, heldKeys, ownerLegal, owned, identityLegal, soundLegal, protectionLegal, wellFormed}
 use Rattle.unit.specs.declared.TagUnit.{TagUnit}
 use Rattle.unit.specs.declared.Settings.{Settings}
 use Rattle.unit.specs.declared.Clock.{Clock}
@@ -26,14 +24,13 @@ use Rattle.nonces.proofs.Lines.{none-legal, spent-legal}
 use Rattle.nonces.proofs.Issuing.{issued-legal}
 use Rattle.unit.specs.declared.Owner.{Owner}
 use Rattle.unit.specs.declared.Identity.{Identity}
-use Rattle.unit.specs.declared.Identifier.{Identifier}
 use Rattle.unit.specs.declared.Sound.{Sound}
 use Rattle.unit.specs.declared.Protection.{Protection}
 use Rattle.unit.proofs.Lines.{AccountsLines, RingLines, lines, formed, settings-lines, ring-legal}
 use Rattle.unit.proofs.Adding.{accounts-added, owner-added}
 
 pub fresh-formed : (s : Settings) → settingsLegal s ≡ true → wellFormed (fresh s) ≡ true
-unfolding heldKeys rows distinct ownerLegal identityLegal soundLegal identifierLegal allZero
+unfolding heldKeys rows distinct ownerLegal identityLegal soundLegal allZero
 fresh-formed s h =
     formed (fresh s)
     (record {
@@ -48,7 +45,6 @@ fresh-formed s h =
       protection = refl;
       consent = search needs;
       battery = search needs;
-      identifier = refl;
     })
 
 -- An owner's place and an identity key: any place will do
@@ -69,19 +65,6 @@ sound-keyed (Sound.Ringing mask volume left) nonce s keyed h = and-right keyed _
 protection-keyed : (p : Protection) (keyed : Bool) → protectionLegal p keyed ≡ true → protectionLegal p true ≡ true
 protection-keyed Protection.Off keyed h = refl
 protection-keyed (Protection.On skip) keyed h = refl
-
-unkeyed-legal : (i : Identifier) → identifierLegal i false ≡ true → identifierLegal i true ≡ true
-unfolding identifierLegal
-unkeyed-legal i h = go (true-or-false (i .held))
-  where
-    go : (i .held ≡ true) ⊎ (i .held ≡ false)
-        → (i .held && eqb (i .window % windowLength) 0) || (not (i .held) && (allZero (i .r) && (allZero (i .id) && eqb (i .window) 0))) ≡ true
-    go (inl e) = absurd (false≢true (rw e at h))
-    go (inr e) = rw e (rw e at h)
-
-identifier-keyed : (i : Identifier) (keyed : Bool) → identifierLegal i keyed ≡ true → identifierLegal i true ≡ true
-identifier-keyed i true h = h
-identifier-keyed i false h = unkeyed-legal i h
 
 module _ (u : TagUnit) (w : wellFormed u ≡ true) where
   pub clock-kept : (c : Clock) → c .tenth ≤ 9 → wellFormed (withClock c u) ≡ true
@@ -131,7 +114,6 @@ module _ (u : TagUnit) (w : wellFormed u ≡ true) where
       let identity = or-left false h in
       let sound = sound-keyed (u .sound) (u .«ring_nonce») (u .settings) (u .identity .held) (l .sound) in
       let protection = protection-keyed (u .protection) (u .identity .held) (l .protection) in
-      let identifier = identifier-keyed (u .identifier) (u .identity .held) (l .identifier) in
       formed (withIdentity (record { held = true; bytes = bytes }) u) (search needs)
 
   pub waiting-kept : (bytes : List ℕ) → owned (u .accounts .owner) ≡ true → wellFormed (withWaiting (identityKey bytes) u) ≡ true
@@ -165,22 +147,3 @@ module _ (u : TagUnit) (w : wellFormed u ≡ true) where
 
   pub protection-kept : (p : Protection) → protectionLegal p (u .identity .held) ≡ true → wellFormed (withProtection p u) ≡ true
   protection-kept p h = let l = lines u w in formed (withProtection p u) (search needs)
-
-  pub unlent-kept : wellFormed (withIdentifier noIdentifier u) ≡ true
-  unfolding identifierLegal allZero
-  unlent-kept =
-      let l = lines u w in
-      let identifier : identifierLegal noIdentifier (u .identity .held) ≡ true = refl in
-      formed (withIdentifier noIdentifier u) (search needs)
-
-  pub lent-kept : (r id : List ℕ) (from : ℕ) → u .identity .held ≡ true → from % windowLength ≡ 0
-      → wellFormed (withIdentifier (record { held = true; r = r; id = id; window = from }) u) ≡ true
-  unfolding identifierLegal
-  lent-kept r id from k h =
-      let l = lines u w in
-      let identifier = or-left false (both k (eq-eqb (from % windowLength) 0 h)) in
-      formed (withIdentifier (record { held = true; r = r; id = id; window = from }) u) (search needs)
-
--- The window of a second has its low 10 bits clear
-pub window-clear : (seconds : ℕ) → window seconds % windowLength ≡ 0
-window-clear seconds = omega arith

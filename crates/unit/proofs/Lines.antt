@@ -1,5 +1,5 @@
 -- Well-formedness by its lines: `wellFormed u ≡ true` exactly if every line of "What a unit holds" is met, each by a name.
-use Prim.Native.Nat.{ℕ, _*_, _%_, _≤_, _<_}
+use Prim.Native.Nat.{ℕ, _*_, _≤_, _<_}
 use mathlib.Core.Path.{_≡_, sym, ap, _∙_}
 use mathlib.Core.List.{List, []}
 use mathlib.Core.Bool.{Bool, true, false, not, _&&_, _||_}
@@ -14,8 +14,8 @@ use Rattle.tables.specs.Rows.{distinct}
 use Rattle.tables.proofs.Rows.{length-rows, length-row}
 use Rattle.nonces.specs.Nonces.{noncesLegal}
 use Rattle.unit.specs.Ringable.{inside}
-use Rattle.unit.specs.WellFormed.{powerLegal, settingsLegal, heldKeys, accountsLegal, ownerLegal, owned, identityLegal, soundLegal, protectionLegal, identifierLegal, wellFormed}
-use Rattle.sizes.specs.Sizes.{mostComponents, accountKeySize, mostKeys, keysRoom, highestVolume, highestBattery, fullConsent, windowLength}
+use Rattle.unit.specs.WellFormed.{powerLegal, settingsLegal, heldKeys, accountsLegal, ownerLegal, owned, identityLegal, soundLegal, protectionLegal, wellFormed}
+use Rattle.sizes.specs.Sizes.{mostComponents, accountKeySize, mostKeys, keysRoom, highestVolume, fullConsent}
 use Rattle.unit.specs.declared.TagUnit.{TagUnit}
 use Rattle.unit.specs.declared.Settings.{Settings}
 use Rattle.unit.specs.declared.Accounts.{Accounts}
@@ -46,7 +46,6 @@ pub record Lines (u : TagUnit) : Type 0 where
   pub protection : protectionLegal (u .protection) (u .identity .held) ≡ true
   pub consent : u .consent ≤ 600
   pub battery : u .battery ≤ 3
-  pub identifier : identifierLegal (u .identifier) (u .identity .held) ≡ true
 
 pub settings-lines : (s : Settings) → settingsLegal s ≡ true → SettingsLines s
 unfolding settingsLegal
@@ -102,8 +101,7 @@ lines u h =
       sound = and-left _ _ from-sound;
       protection = and-left _ _ from-protection;
       consent = leb-true _ _ (and-left _ _ from-consent);
-      battery = leb-true _ _ (and-left _ _ from-battery);
-      identifier = and-right (leb (u .battery) highestBattery) _ from-battery;
+      battery = leb-true _ _ from-battery;
     }
 
 pub formed : (u : TagUnit) → Lines u → wellFormed u ≡ true
@@ -119,8 +117,7 @@ formed u l =
     (both (l .sound)
     (both (l .protection)
     (both (le-leb _ _ (l .consent))
-    (both (le-leb _ _ (l .battery))
-    (l .identifier)))))))))))
+    (le-leb _ _ (l .battery)))))))))))
 
 -- Volume 0 where it is not selectable, as a test and as a fact
 fixed-test : (selectable volume : ℕ) → (selectable ≡ 0 → volume ≡ 0) → not (eqb selectable 0) || eqb volume 0 ≡ true
@@ -200,7 +197,7 @@ key-length a place l h =
     length-row accountKeySize (a .count) (a .keys) place (omega (arith, length-rows accountKeySize (a .count) (a .keys)))
     (omega (arith, l .room, l .count))
 
--- What a well-formed unit's owner, sound, protection and identifier say of the rest
+-- What a well-formed unit's owner, sound and protection say of the rest
 module _ {u : TagUnit} (l : Lines u) where
   pub owner-held : (place : ℕ) → u .accounts .owner ≡ Owner.Place place → place < u .accounts .count
   unfolding ownerLegal
@@ -225,12 +222,3 @@ module _ {u : TagUnit} (l : Lines u) where
 
   pub protection-held : {skip : Bool} → u .protection ≡ Protection.On skip → u .identity .held ≡ true
   protection-held e = rw e at (l .protection)
-
-  pub identifier-held : u .identifier .held ≡ true → u .identity .held ≡ true
-  unfolding identifierLegal
-  identifier-held e = and-left _ _ (sym (or-false _) ∙ (rw e at (l .identifier)))
-
-  pub identifier-window : u .identifier .held ≡ true → u .identifier .window % windowLength ≡ 0
-  unfolding identifierLegal
-  identifier-window e =
-      eqb-true _ _ (and-right (u .identity .held) _ (sym (or-false _) ∙ (rw e at (l .identifier))))

@@ -4,7 +4,7 @@ use mathlib.Core.Bool.{Bool, true, false}
 use mathlib.Core.List.{List}
 use lib.ListN.{replicate}
 use lib.IntN.{pos}
-use Rattle.sizes.specs.Sizes.{nonceSize, accountKeySize, keysRoom, identityKeySize, identifierSize}
+use Rattle.sizes.specs.Sizes.{nonceSize, accountKeySize, keysRoom, identityKeySize}
 use Rattle.octets.specs.Put.{pasted}
 use Rattle.nonces.specs.Nonces.{noNonces, spentNonces}
 use Rattle.unit.specs.declared.TagUnit.{TagUnit}
@@ -16,7 +16,6 @@ use Rattle.unit.specs.declared.Owner.{Owner}
 use Rattle.unit.specs.declared.Identity.{Identity}
 use Rattle.unit.specs.declared.Sound.{Sound}
 use Rattle.unit.specs.declared.Protection.{Protection}
-use Rattle.unit.specs.declared.Identifier.{Identifier}
 
 -- What is absent has zeros in its room
 abbrev pub noAccounts : Accounts
@@ -29,14 +28,11 @@ noIdentity = record { held = false; bytes = replicate identityKeySize 0 }
 abbrev pub identityKey : List ℕ → Identity
 identityKey key = record { held = true; bytes = key }
 
-abbrev pub noIdentifier : Identifier
-noIdentifier = record { held = false; r = replicate identifierSize 0; id = replicate identifierSize 0; window = 0 }
-
 -- the nonce beside a silent sound
 abbrev pub noRingNonce : List ℕ
 noRingNonce = replicate nonceSize 0
 
--- Fresh: no keys, nonce, sound, protection, consent, pairing or identifier; battery 0; the clock starts at 0. No key waits
+-- Fresh: no keys, nonce, sound, protection, consent or pairing; battery 0; the clock starts at 0. No key waits
 abbrev pub fresh : Settings → TagUnit
 fresh s =
     record {
@@ -52,12 +48,11 @@ fresh s =
       consent = 0;
       pairing = false;
       battery = 0;
-      identifier = noIdentifier;
     }
 
 -- a unit of its parts
-abbrev pub unitOf : Settings → Clock → Nonces → Accounts → Identity → Identity → Sound → List ℕ → Protection → ℕ → Bool → ℕ → Identifier → TagUnit
-unitOf s c n a k w v m p t g b i =
+abbrev pub unitOf : Settings → Clock → Nonces → Accounts → Identity → Identity → Sound → List ℕ → Protection → ℕ → Bool → ℕ → TagUnit
+unitOf s c n a k w v m p t g b =
     record {
       settings = s;
       clock = c;
@@ -71,49 +66,44 @@ unitOf s c n a k w v m p t g b i =
       consent = t;
       pairing = g;
       battery = b;
-      identifier = i;
     }
 
 -- the unit with one part changed
 abbrev pub withClock : Clock → TagUnit → TagUnit
 withClock c u =
-    unitOf (u .settings) c (u .nonces) (u .accounts) (u .identity) (u .waiting) (u .sound) (u .«ring_nonce») (u .protection) (u .consent) (u .pairing) (u .battery) (u .identifier)
+    unitOf (u .settings) c (u .nonces) (u .accounts) (u .identity) (u .waiting) (u .sound) (u .«ring_nonce») (u .protection) (u .consent) (u .pairing) (u .battery)
 
 abbrev pub withNonces : Nonces → TagUnit → TagUnit
 withNonces n u =
-    unitOf (u .settings) (u .clock) n (u .accounts) (u .identity) (u .waiting) (u .sound) (u .«ring_nonce») (u .protection) (u .consent) (u .pairing) (u .battery) (u .identifier)
+    unitOf (u .settings) (u .clock) n (u .accounts) (u .identity) (u .waiting) (u .sound) (u .«ring_nonce») (u .protection) (u .consent) (u .pairing) (u .battery)
 
 abbrev pub withAccounts : Accounts → TagUnit → TagUnit
 withAccounts a u =
-    unitOf (u .settings) (u .clock) (u .nonces) a (u .identity) (u .waiting) (u .sound) (u .«ring_nonce») (u .protection) (u .consent) (u .pairing) (u .battery) (u .identifier)
+    unitOf (u .settings) (u .clock) (u .nonces) a (u .identity) (u .waiting) (u .sound) (u .«ring_nonce») (u .protection) (u .consent) (u .pairing) (u .battery)
 
 abbrev pub withIdentity : Identity → TagUnit → TagUnit
 withIdentity k u =
-    unitOf (u .settings) (u .clock) (u .nonces) (u .accounts) k (u .waiting) (u .sound) (u .«ring_nonce») (u .protection) (u .consent) (u .pairing) (u .battery) (u .identifier)
+    unitOf (u .settings) (u .clock) (u .nonces) (u .accounts) k (u .waiting) (u .sound) (u .«ring_nonce») (u .protection) (u .consent) (u .pairing) (u .battery)
 
 abbrev pub withWaiting : Identity → TagUnit → TagUnit
 withWaiting w u =
-    unitOf (u .settings) (u .clock) (u .nonces) (u .accounts) (u .identity) w (u .sound) (u .«ring_nonce») (u .protection) (u .consent) (u .pairing) (u .battery) (u .identifier)
+    unitOf (u .settings) (u .clock) (u .nonces) (u .accounts) (u .identity) w (u .sound) (u .«ring_nonce») (u .protection) (u .consent) (u .pairing) (u .battery)
 
 abbrev pub withProtection : Protection → TagUnit → TagUnit
 withProtection p u =
-    unitOf (u .settings) (u .clock) (u .nonces) (u .accounts) (u .identity) (u .waiting) (u .sound) (u .«ring_nonce») p (u .consent) (u .pairing) (u .battery) (u .identifier)
+    unitOf (u .settings) (u .clock) (u .nonces) (u .accounts) (u .identity) (u .waiting) (u .sound) (u .«ring_nonce») p (u .consent) (u .pairing) (u .battery)
 
 abbrev pub withConsent : ℕ → TagUnit → TagUnit
 withConsent t u =
-    unitOf (u .settings) (u .clock) (u .nonces) (u .accounts) (u .identity) (u .waiting) (u .sound) (u .«ring_nonce») (u .protection) t (u .pairing) (u .battery) (u .identifier)
+    unitOf (u .settings) (u .clock) (u .nonces) (u .accounts) (u .identity) (u .waiting) (u .sound) (u .«ring_nonce») (u .protection) t (u .pairing) (u .battery)
 
 abbrev pub withPairing : Bool → TagUnit → TagUnit
 withPairing on u =
-    unitOf (u .settings) (u .clock) (u .nonces) (u .accounts) (u .identity) (u .waiting) (u .sound) (u .«ring_nonce») (u .protection) (u .consent) on (u .battery) (u .identifier)
+    unitOf (u .settings) (u .clock) (u .nonces) (u .accounts) (u .identity) (u .waiting) (u .sound) (u .«ring_nonce») (u .protection) (u .consent) on (u .battery)
 
 abbrev pub withBattery : ℕ → TagUnit → TagUnit
 withBattery level u =
-    unitOf (u .settings) (u .clock) (u .nonces) (u .accounts) (u .identity) (u .waiting) (u .sound) (u .«ring_nonce») (u .protection) (u .consent) (u .pairing) level (u .identifier)
-
-abbrev pub withIdentifier : Identifier → TagUnit → TagUnit
-withIdentifier i u =
-    unitOf (u .settings) (u .clock) (u .nonces) (u .accounts) (u .identity) (u .waiting) (u .sound) (u .«ring_nonce») (u .protection) (u .consent) (u .pairing) (u .battery) i
+    unitOf (u .settings) (u .clock) (u .nonces) (u .accounts) (u .identity) (u .waiting) (u .sound) (u .«ring_nonce») (u .protection) (u .consent) (u .pairing) level
 
 -- the accounts with another owner
 abbrev pub withOwner : Owner → Accounts → Accounts
@@ -126,7 +116,7 @@ withNewKey key a = record { count = a .count + 1; owner = a .owner; keys = paste
 -- a sound, with the nonce of the accepted ring beside it
 abbrev pub withSound : Sound → List ℕ → TagUnit → TagUnit
 withSound v m u =
-    unitOf (u .settings) (u .clock) (u .nonces) (u .accounts) (u .identity) (u .waiting) v m (u .protection) (u .consent) (u .pairing) (u .battery) (u .identifier)
+    unitOf (u .settings) (u .clock) (u .nonces) (u .accounts) (u .identity) (u .waiting) v m (u .protection) (u .consent) (u .pairing) (u .battery)
 
 -- Every way to silence goes through here: no sound, and no nonce beside it
 abbrev pub silenced : TagUnit → TagUnit

@@ -3,4 +3,3 @@ pub mod Refusals
 pub mod Change
 pub mod WellFormed
 pub mod Outcome
-pub mod Standing

@@ -1,5 +1,5 @@
 -- "What a unit holds": exactly the lines that make a record well formed.
-use Prim.Native.Nat.{ℕ, _*_, _%_}
+use Prim.Native.Nat.{ℕ, _*_}
 use mathlib.Core.Bool.{Bool, true, false, not, _&&_, _||_}
 use mathlib.Core.List.{List, []}
 use mathlib.Core.Option.{Option, some, none}
@@ -7,7 +7,7 @@ use lib.Dec.{leb, ltb, eqb}
 use lib.ListN.{length, getD, drop}
 use lib.IntN.{ℤ, pos, negsuc}
 use Rattle.laws.specs.Bytes.{allZero}
-use Rattle.sizes.specs.Sizes.{accountKeySize, mostKeys, keysRoom, mostComponents, highestVolume, highestBattery, longestRing, fullConsent, windowLength}
+use Rattle.sizes.specs.Sizes.{accountKeySize, mostKeys, keysRoom, mostComponents, highestVolume, highestBattery, longestRing, fullConsent}
 use Rattle.tables.specs.Rows.{rows, distinct}
 use Rattle.nonces.specs.Nonces.{noncesLegal}
 use Rattle.unit.specs.Ringable.{inside}
@@ -19,7 +19,6 @@ use Rattle.unit.specs.declared.Owner.{Owner}
 use Rattle.unit.specs.declared.Identity.{Identity}
 use Rattle.unit.specs.declared.Sound.{Sound}
 use Rattle.unit.specs.declared.Protection.{Protection}
-use Rattle.unit.specs.declared.Identifier.{Identifier}
 
 -- Settings: calibrated power, a whole number from -100 to 20 (negsuc n is -(n + 1)); components 0 to 3; volume selectable, 0 or 1
 abbrev pub powerLegal : ℤ → Bool
@@ -78,14 +77,7 @@ abbrev pub protectionLegal : Protection → Bool → Bool
 protectionLegal Protection.Off keyed = true
 protectionLegal (Protection.On skip) keyed = keyed
 
--- a lent identifier with its r and its window (low 10 bits clear), only with an identity key
-unfoldable pub identifierLegal : Identifier → Bool → Bool
-identifierLegal i keyed =
-    (i .held && (keyed && eqb (i .window % windowLength) 0))
-    || (not (i .held) && (allZero (i .r) && (allZero (i .id) && eqb (i .window) 0)))
-
--- All lines. Not among them, on purpose: that a ringing unit has a last nonce, the ring's nonce against the last, the identifier's window
--- against the clock, and consent only with a key
+-- All lines. Not among them, on purpose: that a ringing unit has a last nonce, the ring's nonce against the last, and consent only with a key
 unfoldable pub wellFormed : TagUnit → Bool
 wellFormed u =
     settingsLegal (u .settings)
@@ -98,4 +90,4 @@ wellFormed u =
     && (soundLegal (u .sound) (u .«ring_nonce») (u .settings) (keyed u)
     && (protectionLegal (u .protection) (keyed u)
     && (leb (u .consent) fullConsent
-    && (leb (u .battery) highestBattery && identifierLegal (u .identifier) (keyed u)))))))))))
+    && leb (u .battery) highestBattery)))))))))

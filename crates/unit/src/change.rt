@@ -1,16 +1,14 @@
 // A unit with one thing changed. A field that is an enum is not stored to: the record is made anew.
 ghost use mathlib.Core.Path.{_≡_};
-ghost use Rattle.unit.specs.Change.{fresh as freshUnit, noUnit, noIdentity, noIdentifier, withOwner, withProtection, withSound, silenced as silencedUnit, spent as spentUnit};
+ghost use Rattle.unit.specs.Change.{fresh as freshUnit, noUnit, noIdentity, withOwner, withProtection, withSound, silenced as silencedUnit, spent as spentUnit};
 use crate::Accounts;
 use crate::Clock;
-use crate::Identifier;
 use crate::Identity;
 use crate::Owner;
 use crate::Protection;
 use crate::Settings;
 use crate::Sound;
 use crate::TagUnit;
-use sizes::IDENTIFIER_SIZE;
 use sizes::IDENTITY_KEY_SIZE;
 use sizes::KEYS_ROOM;
 use sizes::NONCE_SIZE;
@@ -42,7 +40,6 @@ pub fn fresh(s: Settings) -> TagUnit
         consent: 0,
         pairing: false,
         battery: 0,
-        identifier: no_identifier(),
     }
 }
 
@@ -68,18 +65,6 @@ pub fn no_unit() -> TagUnit
     let mut none = fresh(s);
     none.battery = NO_LEVEL;
     none
-}
-
-// No identifier: zeros in its room.
-pub fn no_identifier() -> Identifier
-    ensures { λ r. ⌜ r ≡ noIdentifier ⌝ }
-{
-    Identifier {
-        held: false,
-        r: [0; IDENTIFIER_SIZE],
-        id: [0; IDENTIFIER_SIZE],
-        window: 0,
-    }
 }
 
 // The accounts with an owner.
@@ -109,7 +94,6 @@ fn rebuilt(
     let accounts = u.accounts;
     let identity = u.identity;
     let waiting = u.waiting;
-    let identifier = u.identifier;
     TagUnit {
         settings,
         clock,
@@ -123,7 +107,6 @@ fn rebuilt(
         consent: u.consent,
         pairing: u.pairing,
         battery: u.battery,
-        identifier,
     }
 }
 

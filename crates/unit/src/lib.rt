@@ -2,7 +2,6 @@
 // `well_formed` judges them.
 
 use nonces::Nonces;
-use sizes::IDENTIFIER_SIZE;
 use sizes::IDENTITY_KEY_SIZE;
 use sizes::KEYS_ROOM;
 use sizes::NONCE_SIZE;
@@ -10,7 +9,6 @@ use sizes::NONCE_SIZE;
 pub mod change;
 pub mod end;
 pub mod mask;
-pub mod standing;
 pub mod well_formed;
 
 // Calibrated power in dBm at 0 m, the number of components that can ring, and whether the volume is selectable (0 or 1).
@@ -57,14 +55,6 @@ pub enum Protection {
     On { skip: bool },
 }
 
-// The ephemeral identifier that the host lends for a window of 1,024 seconds, with the r it came from.
-pub struct Identifier {
-    pub held: bool,
-    pub r: [u8; IDENTIFIER_SIZE],
-    pub id: [u8; IDENTIFIER_SIZE],
-    pub window: u32,
-}
-
 pub struct TagUnit {
     pub settings: Settings,
     pub clock: Clock,
@@ -83,7 +73,6 @@ pub struct TagUnit {
     pub pairing: bool,
     // 0 unsupported, 1 normal, 2 low, 3 critical.
     pub battery: u8,
-    pub identifier: Identifier,
 }
 
 // The refusals of the paper's list; `number` in specs/ gives each its number.

@@ -4,9 +4,8 @@ ghost use mathlib.Core.Bool.{not, _&&_, _||_};
 ghost use lib.Dec.{leb, eqb};
 ghost use Prim.Native.Nat.{_≤_};
 ghost use Rattle.sizes.specs.Sizes.{mostComponents, highestVolume, fullConsent, highestBattery};
-ghost use Rattle.unit.specs.WellFormed.{powerLegal, settingsLegal, accountsLegal, ownerLegal, identityLegal, soundLegal, protectionLegal, identifierLegal, wellFormed};
+ghost use Rattle.unit.specs.WellFormed.{powerLegal, settingsLegal, accountsLegal, ownerLegal, identityLegal, soundLegal, protectionLegal, wellFormed};
 use crate::Accounts;
-use crate::Identifier;
 use crate::Identity;
 use crate::Owner;
 use crate::Protection;
@@ -22,7 +21,6 @@ use sizes::LONGEST_RING;
 use sizes::MOST_COMPONENTS;
 use sizes::MOST_KEYS;
 use sizes::NONCE_SIZE;
-use sizes::WINDOW_LENGTH;
 
 // Calibrated power from -100 to 20 dBm.
 pub fn power_legal(power: i32) -> bool
@@ -144,23 +142,6 @@ fn protection_legal(protection: Protection, keyed: bool) -> bool
     }
 }
 
-fn identifier_legal(i: Identifier, keyed: bool) -> bool
-    ensures { λ r. ⌜ r ≡ identifierLegal i keyed ⌝ }
-{
-    if i.held {
-        return keyed && i.window % WINDOW_LENGTH == 0;
-    }
-    let r = i.r;
-    if !octets::all_zero(&r) {
-        return false;
-    }
-    let id = i.id;
-    if !octets::all_zero(&id) {
-        return false;
-    }
-    i.window == 0
-}
-
 // The clock's tenth, the consent left and the battery level, each at most its most.
 fn numbers_legal(tenth: u8, consent: u16, battery: u8) -> bool
     ensures { λ r. ⌜ r ≡ (leb tenth 9 && (leb consent fullConsent && leb battery highestBattery)) ⌝ }
@@ -209,9 +190,5 @@ pub fn well_formed(u: TagUnit) -> bool
         return false;
     }
     let protection = u.protection;
-    if !protection_legal(protection, keyed) {
-        return false;
-    }
-    let identifier = u.identifier;
-    identifier_legal(identifier, keyed)
+    protection_legal(protection, keyed)
 }

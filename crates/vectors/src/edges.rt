@@ -9,6 +9,7 @@ enum Call {
     Authenticate,
     Encrypt,
     Decrypt,
+    EncryptLong,
 }
 
 // The sequence: 0 to 250, and so on from 0.
@@ -28,6 +29,7 @@ fn called(call: Call, key: &[u8], message: &[u8], answer: &mut [u8]) -> Ending {
         Call::Authenticate => primitive_calls::hmac_sha256(key, message, answer),
         Call::Encrypt => primitive_calls::aes128_encrypt(key, message, answer),
         Call::Decrypt => primitive_calls::aes128_decrypt(key, message, answer),
+        Call::EncryptLong => primitive_calls::aes256_encrypt(key, message, answer),
     }
 }
 
@@ -37,6 +39,7 @@ fn name(call: Call) {
         Call::Authenticate => print::text(b"hmac "),
         Call::Encrypt => print::text(b"encrypt "),
         Call::Decrypt => print::text(b"decrypt "),
+        Call::EncryptLong => print::text(b"encrypt256 "),
     }
 }
 
@@ -128,7 +131,7 @@ fn tags_of_parts(bytes: &[u8]) {
     parts(bytes, 65536, 65533, 1, 1);
 }
 
-// The sizes of a block cipher's key, block and answer.
+// The sizes of a block cipher's key, block and answer: of AES-128, each way, and of AES-256.
 fn blocks(bytes: &[u8], call: Call) {
     row(bytes, call, 16, 16, 16);
     row(bytes, call, 0, 16, 16);
@@ -141,6 +144,20 @@ fn blocks(bytes: &[u8], call: Call) {
     row(bytes, call, 16, 16, 0);
     row(bytes, call, 16, 16, 15);
     row(bytes, call, 16, 16, 17);
+}
+
+fn blocks_under_long_keys(bytes: &[u8]) {
+    row(bytes, Call::EncryptLong, 32, 16, 16);
+    row(bytes, Call::EncryptLong, 0, 16, 16);
+    row(bytes, Call::EncryptLong, 16, 16, 16);
+    row(bytes, Call::EncryptLong, 31, 16, 16);
+    row(bytes, Call::EncryptLong, 33, 16, 16);
+    row(bytes, Call::EncryptLong, 32, 0, 16);
+    row(bytes, Call::EncryptLong, 32, 15, 16);
+    row(bytes, Call::EncryptLong, 32, 17, 16);
+    row(bytes, Call::EncryptLong, 32, 16, 0);
+    row(bytes, Call::EncryptLong, 32, 16, 15);
+    row(bytes, Call::EncryptLong, 32, 16, 17);
 }
 
 // The sizes of SHAVS' long messages.
@@ -160,5 +177,6 @@ pub fn run() {
     tags_of_parts(&bytes);
     blocks(&bytes, Call::Encrypt);
     blocks(&bytes, Call::Decrypt);
+    blocks_under_long_keys(&bytes);
     long_messages(&bytes);
 }

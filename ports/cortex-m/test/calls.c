@@ -179,6 +179,7 @@ static void draw_message(struct argument *a) {
 
 static void draw_identifier(struct argument *a) { sized(a, TAG_IDENTIFIER_SIZE); }
 static void draw_block(struct argument *a) { sized(a, TAG_BLOCK_SIZE); }
+static void draw_long_key(struct argument *a) { sized(a, 2 * TAG_BLOCK_SIZE); }
 static void draw_digest(struct argument *a) { sized(a, TAG_DIGEST_SIZE); }
 static void draw_power(struct argument *a) { a->number = one_in(20) ? chance() : below(124) - 102; }
 static void draw_small(struct argument *a) { a->number = one_in(20) ? chance() : below(5); }
@@ -193,7 +194,7 @@ static void draw_tenths(struct argument *a) {
 
 static const struct kind record = {draw_record, 1}, lent_record = {draw_record, 0}, answer = {draw_answer, 1}, digest = {draw_digest, 1}, answer_block = {draw_block, 1}, nonce = {draw_nonce, 0},
                          request = {draw_request, 0}, account_key = {draw_account_key, 0}, identifier = {draw_identifier, 0}, frame_text = {draw_frame, 0}, parts = {draw_parts, 1}, message = {draw_message, 0},
-                         block = {draw_block, 0}, power = {draw_power, 0}, small = {draw_small, 0}, on_or_off = {draw_switch, 0}, reach = {draw_reach, 0}, tenths = {draw_tenths, 0};
+                         block = {draw_block, 0}, long_key = {draw_long_key, 0}, power = {draw_power, 0}, small = {draw_small, 0}, on_or_off = {draw_switch, 0}, reach = {draw_reach, 0}, tenths = {draw_tenths, 0};
 
 /* ---- the exports: name, how often (of the sum), its arguments in C, and the kind of each. One more export is one more line. */
 #define S(i) a[i].at, a[i].bytes
@@ -210,14 +211,14 @@ static const struct kind record = {draw_record, 1}, lent_record = {draw_record, 
     E(tag_battery, 10, (S(0), U(1)), &record, &small)                                     \
     E(tag_account_key, 20, (S(0), S(1)), &record, &account_key)                           \
     E(tag_disconnect, 20, (S(0)), &record)                                                \
-    E(tag_lend_identifier, 24, (S(0), S(1), S(2)), &record, &identifier, &identifier)     \
     E(tag_frame, 24, (S(0), S(1)), &record, &answer)                                      \
     E(tag_frame_read, 16, (S(0), S(1)), &frame_text, &parts)                              \
     E(tag_frame_read_with_r, 16, (S(0), S(1), S(2)), &frame_text, &identifier, &parts)    \
     E(tag_sha256, 10, (S(0), S(1)), &message, &digest)                                    \
     E(tag_hmac_sha256, 10, (S(0), S(1), S(2)), &message, &message, &digest)               \
     E(tag_aes128_encrypt, 10, (S(0), S(1), S(2)), &block, &block, &answer_block)          \
-    E(tag_aes128_decrypt, 10, (S(0), S(1), S(2)), &block, &block, &answer_block)
+    E(tag_aes128_decrypt, 10, (S(0), S(1), S(2)), &block, &block, &answer_block)          \
+    E(tag_aes256_encrypt, 10, (S(0), S(1), S(2)), &long_key, &block, &answer_block)
 
 #define CALLER(name, often, arguments, ...)                         \
     static uint64_t call_##name(const struct argument *a) {         \

@@ -67,7 +67,6 @@ int main(void) {
     derived_key(record, 2, key);
     ask(0x05, key, TAG_TAG_SIZE, ring, sizeof ring);
     show("ring write (0x05)", write_request);
-    tag_lend_identifier(record, sizeof record, some, TAG_IDENTIFIER_SIZE, some, TAG_IDENTIFIER_SIZE);
     show("frame", frame);
     return faults ? 1 : 0;
 }

@@ -30,7 +30,6 @@ fn arguments(call: &Call) -> String {
         Call::Pairing(on) => format!("on={on}\n"),
         Call::Battery(level) => format!("level={level}\n"),
         Call::AccountKey(key) => format!("bytes={}\n", hex(key)),
-        Call::Identifier(r, id) => format!("r={}\nid={}\n", hex(r), hex(id)),
         Call::Button | Call::Disconnect | Call::Frame | Call::Sleep => String::new(),
     }
 }
@@ -101,7 +100,6 @@ fn good_calls(unit: &Unit) -> Vec<Call> {
         Call::Pairing(1),
         Call::Battery(2),
         Call::AccountKey(unit.keys[0].to_vec()),
-        Call::Identifier(vec![0x11; 20], vec![0x22; 20]),
         Call::Frame,
         Call::Sleep,
     ]
@@ -137,8 +135,6 @@ fn bad_calls(unit: &Unit) -> Vec<(&'static str, Call, &'static str)> {
         ("level-256", Call::Battery(256), "01"),
         ("key-of-15-bytes", Call::AccountKey(vec![0xa1; 15]), "04"),
         ("key-of-17-bytes", Call::AccountKey(vec![0xa1; 17]), "04"),
-        ("r-of-19-bytes", Call::Identifier(vec![0x11; 19], vec![0x22; 20]), "01"),
-        ("id-of-21-bytes", Call::Identifier(vec![0x11; 20], vec![0x22; 21]), "01"),
     ]
 }
 
@@ -166,8 +162,11 @@ fn call_rows(table: &mut Table) {
     let fresh = encode(&damage::fresh());
     table.row("fresh", &fresh, &Call::Frame, ROOM, Some("05"));
     table.row("fresh", &fresh, &Call::Frame, ROOM - 1, Some("06"));
-    table.row("fresh", &fresh, &Call::Identifier(vec![0x11; 20], vec![0x22; 20]), ROOM, Some("05"));
-    table.row("fresh-and-no-id", &fresh, &Call::Identifier(vec![0x11; 20], vec![]), ROOM, Some("01"));
+    let waits = encode(&damage::waits());
+    table.row("waiting-key-only", &waits, &Call::Frame, ROOM, Some("05"));
+    let mut broken_fresh = damage::fresh();
+    broken_fresh.tenth = 10;
+    table.row("fresh-and-broken", &encode(&broken_fresh), &Call::Frame, ROOM, Some("02"));
     let crowded = encode(&damage::guests(SLOTS));
     table.row("one-key-more-than-there-is-room", &crowded, &Call::AccountKey(vec![0xee; 16]), ROOM, Some("04"));
 }
@@ -196,12 +195,10 @@ fn write_rows(table: &mut Table) {
     table.row("no-consent", &encode(&no_consent), &right_write(&no_consent, 0x04), ROOM, Some("82"));
     no_consent.consent = 1;
     table.row("a-tenth-of-consent", &encode(&no_consent), &right_write(&no_consent, 0x04), ROOM, Some("ok"));
-    let mut other_window = unit.clone();
-    other_window.window = 5_120;
-    table.row("next-window", &encode(&other_window), &Call::Frame, ROOM, Some("05"));
-    table.row("next-window", &encode(&other_window), &right_write(&other_window, 0x01), ROOM, Some("ok"));
-    other_window.window = 3_072;
-    table.row("last-window", &encode(&other_window), &Call::Frame, ROOM, Some("05"));
+    let mut last_window = unit.clone();
+    last_window.seconds = u32::MAX;
+    table.row("last-window", &encode(&last_window), &Call::Frame, ROOM, Some("ok"));
+    table.row("last-window", &encode(&last_window), &right_write(&last_window, 0x01), ROOM, Some("ok"));
     let mut no_nonce = unit;
     no_nonce.live = false;
     no_nonce.nonce_count = 0;

@@ -2,7 +2,7 @@
 
 use super::*;
 use crate::primitives::{aes128_decrypt, sha256};
-use crate::tag::{account_key, battery, button, elapsed, frame, lent_identifier, new_unit, plain_flags, read, ringable, window_of, Protection, Sound};
+use crate::tag::{account_key, battery, button, elapsed, frame, new_unit, plain_flags, read, ringable, window_of, Protection, Sound};
 
 #[test]
 fn power_bytes() {
@@ -122,7 +122,6 @@ fn flags() {
     assert_eq!(plain_flags(1, false), 0x02);
     assert_eq!(plain_flags(3, true), 0x07);
     assert_eq!(plain_flags(0, true), 0x01);
-    let last = sha256(&[9; 20])[31];
     for (level, protection, kind, byte) in [
         (0, Protection::Off, 0x40, None),
         (1, Protection::Off, 0x40, Some(0x02)),
@@ -132,13 +131,13 @@ fn flags() {
         let mut unit = provisioned(0, 0);
         unit.protection = protection;
         battery(&mut unit, level).unwrap();
-        lent_identifier(&mut unit, &[9; 20], &[8; 20]).unwrap();
+        let identifier = unit.current_identifier().unwrap();
         let mut answer = [0xa5; 42];
         let count = frame(&mut unit, &mut answer).unwrap();
         let mut expected = vec![2, 1, 6, if byte.is_some() { 0x19 } else { 0x18 }, 0x16, 0xaa, 0xfe, kind];
-        expected.extend_from_slice(&[8; 20]);
+        expected.extend_from_slice(&identifier.id);
         if let Some(byte) = byte {
-            expected.push(byte ^ last);
+            expected.push(byte ^ sha256(&identifier.r)[31]);
         }
         assert_eq!(answer[..count].to_vec(), expected);
         assert!(answer[count..].iter().all(|b| *b == 0xa5));
@@ -162,10 +161,10 @@ fn answer_room() {
     assert_eq!(answer, [0xa5; 41]);
     assert_eq!(unit, before);
     assert!(unit.live);
-    assert_eq!(tag::write(&mut unit, &data, 1, &mut [0; 42]), Ok(11));
+    assert_eq!(tag::write(&mut unit, &data, 1, &mut [0; 42]), Ok(31));
     // More room serves too, and the rest is kept.
     let mut unit = before;
     let mut long = [0xa5; 100];
-    assert_eq!(tag::write(&mut unit, &data, 1, &mut long), Ok(11));
-    assert_eq!(long[11..], [0xa5; 89]);
+    assert_eq!(tag::write(&mut unit, &data, 1, &mut long), Ok(31));
+    assert_eq!(long[31..], [0xa5; 69]);
 }

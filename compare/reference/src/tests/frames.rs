@@ -106,11 +106,12 @@ fn what_the_tag_sends() {
             let mut unit = provisioned(1, 0);
             unit.protection = protection;
             unit.battery = battery;
-            tag::lent_identifier(&mut unit, &[4; 20], &[5; 20]).unwrap();
+            unit.seconds = 1_024 * battery;
+            let identifier = unit.current_identifier().unwrap();
             let mut answer = [0; 42];
             let count = tag::frame(&mut unit, &mut answer).unwrap();
-            let (parts, level) = read_with_r(&answer[..count], &[4; 20]).unwrap();
-            assert_eq!((parts.identifier, parts.protected, level as u32), ([5; 20], protection != Protection::Off, battery));
+            let (parts, level) = read_with_r(&answer[..count], &identifier.r).unwrap();
+            assert_eq!((parts.identifier, parts.protected, level as u32), (identifier.id, protection != Protection::Off, battery));
             assert_eq!(render(&parts), answer[..count]);
         }
     }

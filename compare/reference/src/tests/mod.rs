@@ -1,3 +1,4 @@
+mod curve;
 mod edges;
 mod errors;
 mod frames;

@@ -14,10 +14,6 @@ fn full() -> Unit {
     unit.protection = Protection::On { skip: true };
     unit.consent = 600;
     unit.battery = 3;
-    unit.has_identifier = true;
-    unit.r = [1; 20];
-    unit.identifier = [2; 20];
-    unit.window = 2_048;
     assert!(unit.well_formed());
     unit
 }
@@ -40,7 +36,6 @@ fn broken(change: impl Fn(&mut Unit), of: &Unit) {
     assert_eq!(tag::sleep(&unit), Err(2));
     assert_eq!(tag::battery(&mut unit, 9), Err(2));
     assert_eq!(tag::account_key(&mut unit, &[]), Err(2));
-    assert_eq!(tag::lent_identifier(&mut unit, &[], &[]), Err(2));
     assert_eq!(answer, [0xa5; 42]);
     assert_eq!(unit, before);
     // Room comes before the record.
@@ -159,18 +154,6 @@ fn the_rest() {
         right(|u| u.consent = 600, unit);
         right(|u| u.pairing = true, unit);
     }
-    broken(|u| u.r[0] = 1, &fresh);
-    broken(|u| u.identifier[19] = 1, &fresh);
-    broken(|u| u.window = 1_024, &fresh);
-    broken(|u| u.has_identifier = true, &fresh);
-    let unit = full();
-    broken(|u| u.window = 1, &unit);
-    broken(|u| u.window = 1_023, &unit);
-    broken(|u| u.window = 512, &unit);
-    broken(|u| u.has_identifier = false, &unit);
-    right(|u| u.window = 0, &unit);
-    right(|u| u.window = 0xffff_fc00, &unit);
-    right(|u| { u.r = [0; 20]; u.identifier = [0; 20] }, &unit);
 }
 
 /// The record's size, and that its bytes mean the unit that they were made from.
@@ -182,7 +165,7 @@ fn bytes_and_back() {
         assert_eq!(decode(&encode(&unit)), Some(unit));
     }
     assert_eq!(place("nonces-bytes"), 14);
-    assert_eq!(place("identifier-window") + 4, SIZE);
+    assert_eq!(place("battery") + 1, SIZE);
 }
 
 /// The table's records are broken or right as they are named, and each has a name of its own.

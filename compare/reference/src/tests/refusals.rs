@@ -147,8 +147,8 @@ fn only_0x01_makes_an_owner() {
     tag::disconnect(&mut unit).unwrap();
     assert_eq!(unit.identity[..16], aes128_decrypt(&OWNER_KEY, &[0; 16]));
     assert_eq!(unit.identity[16..], aes128_decrypt(&OWNER_KEY, &[0; 16]));
-    assert_eq!(exchange(&mut unit, [7; 8], &OTHER_KEY, 0x01, &[]).unwrap()[10..], [0x01]);
-    assert_eq!(exchange(&mut unit, [8; 8], &OWNER_KEY, 0x01, &[]).unwrap()[10..], [0x03]);
+    assert_eq!(exchange(&mut unit, [7; 8], &OTHER_KEY, 0x01, &[]).unwrap()[10], 0x01);
+    assert_eq!(exchange(&mut unit, [8; 8], &OWNER_KEY, 0x01, &[]).unwrap()[10], 0x03);
 }
 
 #[test]
@@ -156,7 +156,6 @@ fn new_identity_key_and_what_stays() {
     let mut unit = provisioned(3, 1);
     exchange(&mut unit, [1; 8], &sub_key(&IDENTITY, 3), 0x07, &[1]).unwrap();
     exchange(&mut unit, [2; 8], &sub_key(&IDENTITY, 2), 0x05, &[0xff, 0, 9, 1]).unwrap();
-    tag::lent_identifier(&mut unit, &[1; 20], &[2; 20]).unwrap();
     tag::pairing(&mut unit, true).unwrap();
     tag::battery(&mut unit, 2).unwrap();
     unit.consent = 77;
@@ -174,7 +173,7 @@ fn new_identity_key_and_what_stays() {
     expected.has_waiting = true;
     expected.waiting = IDENTITY;
     assert_eq!(unit, expected);
-    // The same key again: at the disconnect sound ends and the identifier is dropped all the same.
+    // The same key again: at the disconnect sound ends all the same.
     unit.live = true;
     tag::disconnect(&mut unit).unwrap();
     expected.live = true;
@@ -182,11 +181,7 @@ fn new_identity_key_and_what_stays() {
     expected.waiting = [0; 32];
     expected.sound = Sound::Silent;
     expected.ring_nonce = [0; 8];
-    expected.has_identifier = false;
-    expected.r = [0; 20];
-    expected.identifier = [0; 20];
     assert_eq!(unit, expected);
-    assert_eq!(tag::frame(&mut unit, &mut [0; 42]), Err(5));
     // Any other disconnect changes nothing.
     tag::disconnect(&mut unit).unwrap();
     assert_eq!(unit, expected);
@@ -225,7 +220,6 @@ fn a_key_that_waits() {
     exchange(&mut unit, [1; 8], &OWNER_KEY, 0x02, &[0x55; 32]).unwrap();
     let waiting = unit.waiting;
     assert_eq!(offer(&mut unit, 2, 0x66, &waiting), Err(0x80));
-    assert_eq!(tag::lent_identifier(&mut unit, &[0; 20], &[0; 20]), Err(5));
     assert_eq!(tag::frame(&mut unit, &mut [0; 42]), Err(5));
     assert_eq!(exchange(&mut unit, [3; 8], &OWNER_KEY, 0x03, &proof(&waiting, &[3; 8])), Err(0x80));
     assert_eq!(unit.waiting, waiting);
@@ -243,7 +237,6 @@ fn clearing_and_what_remains() {
     unit.consent = 77;
     exchange(&mut unit, [1; 8], &sub_key(&IDENTITY, 3), 0x07, &[1]).unwrap();
     exchange(&mut unit, [2; 8], &sub_key(&IDENTITY, 2), 0x05, &[0xff, 0, 9, 1]).unwrap();
-    tag::lent_identifier(&mut unit, &[1; 20], &[2; 20]).unwrap();
     tag::pairing(&mut unit, true).unwrap();
     tag::battery(&mut unit, 2).unwrap();
     assert_eq!(exchange(&mut unit, [3; 8], &OWNER_KEY, 0x03, &[0; 8]), Err(0x80));
@@ -286,36 +279,33 @@ fn protection_on_and_off() {
 }
 
 #[test]
-fn lent_identifiers() {
+fn frames_and_identifiers() {
     let mut unit = tag::new_unit(0, 0, 0).unwrap();
-    assert_eq!(tag::lent_identifier(&mut unit, &[0; 19], &[0; 20]), Err(1));
-    assert_eq!(tag::lent_identifier(&mut unit, &[0; 20], &[0; 21]), Err(1));
-    assert_eq!(tag::lent_identifier(&mut unit, &[0; 20], &[0; 20]), Err(5));
     assert_eq!(tag::frame(&mut unit, &mut [0; 42]), Err(5));
     assert_eq!(tag::battery(&mut unit, 4), Err(1));
     assert_eq!(tag::battery(&mut unit, 256), Err(1));
     let mut unit = provisioned(0, 0);
-    assert_eq!(tag::frame(&mut unit, &mut [0; 42]), Err(5));
     unit.seconds = 1_023;
     unit.tenth = 8;
-    tag::lent_identifier(&mut unit, &[0; 20], &[6; 20]).unwrap();
-    assert_eq!(unit.window, 0);
+    let (mut first, mut second, mut third) = ([0; 42], [0; 42], [0; 42]);
     let status = exchange(&mut unit, [1; 8], &OTHER_KEY, 0x01, &[]).unwrap();
     assert_eq!(status[1], 29);
     assert_eq!(status[10], 0x01);
-    assert_eq!(status[11..], [6; 20]);
-    assert_eq!(tag::frame(&mut unit, &mut [0; 42]), Ok(28));
+    assert_eq!(tag::frame(&mut unit, &mut first), Ok(28));
+    assert_eq!(status[11..], first[8..28]);
     tag::elapsed(&mut unit, 1, &mut [0; 42]).unwrap();
-    assert_eq!(tag::frame(&mut unit, &mut [0; 42]), Ok(28));
+    assert_eq!(tag::frame(&mut unit, &mut second), Ok(28));
+    assert_eq!(second, first);
     tag::elapsed(&mut unit, 1, &mut [0; 42]).unwrap();
-    assert_eq!(tag::frame(&mut unit, &mut [0; 42]), Err(5));
-    assert_eq!(exchange(&mut unit, [2; 8], &OTHER_KEY, 0x01, &[]).unwrap()[10..], [0x01]);
-    // Time never drops it: 2^32 seconds later it stands again.
+    assert_eq!(tag::frame(&mut unit, &mut third), Ok(28));
+    assert_ne!(third, first);
+    assert_eq!(exchange(&mut unit, [2; 8], &OWNER_KEY, 0x01, &[]).unwrap()[10..], [&[0x03], &third[8..28]].concat());
+    // 2^32 seconds later the first one is back.
     unit.seconds = 4_294_967_295;
     unit.tenth = 9;
-    assert_eq!(tag::frame(&mut unit, &mut [0; 42]), Err(5));
     tag::elapsed(&mut unit, 1, &mut [0; 42]).unwrap();
-    assert_eq!(tag::frame(&mut unit, &mut [0; 42]), Ok(28));
+    assert_eq!(tag::frame(&mut unit, &mut second), Ok(28));
+    assert_eq!(second, first);
 }
 
 #[test]

@@ -27,8 +27,7 @@ fn missing_lines() {
     gives(&format!("{SETTINGS}event=read\n"), "answer=malformed\nline=5\n");
     gives(&format!("{SETTINGS}event=read"), "answer=malformed\nline=4\n");
     gives(&format!("{SETTINGS}event=button\nevent=button"), "answer=button\nanswer=malformed\nline=5\n");
-    gives(&format!("{SETTINGS}event=identifier\nr=\n"), "answer=malformed\nline=6\n");
-    gives(&format!("{SETTINGS}event=identifier\nr=\nid=\n"), "answer=refused\ncode=01\n");
+    gives(&format!("{SETTINGS}event=identifier\nr=\nid=\n"), "answer=malformed\nline=4\n");
     gives(&format!("{SETTINGS}\n"), "answer=malformed\nline=4\n");
 }
 

@@ -148,10 +148,7 @@ fn sleep_by_hand() {
 fn sleeps_and_what_they_miss() {
     let mut dice = Dice(8);
     for _ in 0..300 {
-        let mut unit = random_unit(&mut dice);
-        if dice.below(2) == 0 {
-            tag::lent_identifier(&mut unit, &[1; 20], &[2; 20]).unwrap();
-        }
+        let unit = random_unit(&mut dice);
         let tenths = sleep(&unit).unwrap();
         assert!((1..=10_240).contains(&tenths));
         let mut shown = ([0xa5; 42], [0xa5; 42]);

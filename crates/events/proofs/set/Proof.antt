@@ -50,8 +50,8 @@ completed-requires-3 c κs = search needs
 enum-told-3 : tie.Need-enum-told-3
 enum-told-3 c = search needs
 
-lend-identifier-requires : tie.Need-lend-identifier-requires
-lend-identifier-requires c κs = search needs
+disconnect-requires : tie.Need-disconnect-requires
+disconnect-requires c κs = search needs
 
 slice-aggregate-completed-4 : tie.Need-slice-aggregate-completed-4
 slice-aggregate-completed-4 c = search needs
@@ -59,25 +59,13 @@ slice-aggregate-completed-4 c = search needs
 completed-requires-4 : tie.Need-completed-requires-4
 completed-requires-4 c κs = search needs
 
-enum-told-4 : tie.Need-enum-told-4
-enum-told-4 c = search needs
-
-disconnect-requires : tie.Need-disconnect-requires
-disconnect-requires c κs = search needs
-
-slice-aggregate-completed-5 : tie.Need-slice-aggregate-completed-5
-slice-aggregate-completed-5 c = search needs
-
-completed-requires-5 : tie.Need-completed-requires-5
-completed-requires-5 c κs = search needs
-
 same-length : tie.Need-same-length
 same-length c = search needs
 
 returns : tie.Need-returns
 unfolding performed successText tag.call tag.own tag.guarded
 returns c =
-    let known = c .before .before .before .before .before .before .before .before .before .before .before .before .args in
+    let known = c .before .before .before .before .before .before .before .before .before .before .before .args in
     rw (c .before .before .before .before .before .before .before .what .given .1)
     (performs-completed (asks (tag.pairing (c .before .before .before .before .before .before .before .what .given .0 .0))) (known .u) (ascii "answer=pairing\n") (omega arith) (λ o. refl) (call-quiet (tag.pairing (c .before .before .before .before .before .before .before .what .given .0 .0)) answerRoom (known .u) refl) (c .before .before .before .before .before .pairing .ensures) (c .before .before .completed .ensures))
 
@@ -87,7 +75,7 @@ same-length-2 c = search needs
 returns-2 : tie.Need-returns-2
 unfolding performed successText tag.call tag.own tag.guarded
 returns-2 c =
-    let known = c .before .before .before .before .before .before .before .before .before .before .before .args in
+    let known = c .before .before .before .before .before .before .before .before .before .before .args in
     rw (c .before .before .before .before .before .before .enum-told .given .1)
     (performs-completed (asks (tag.battery (known .level))) (known .u) (ascii "answer=battery\n") (omega arith) (λ o. refl) (call-quiet (tag.battery (known .level)) answerRoom (known .u) refl) (c .before .before .before .before .before .battery .ensures) (c .before .before .completed2 .ensures))
 
@@ -97,7 +85,7 @@ same-length-3 c = search needs
 returns-3 : tie.Need-returns-3
 unfolding performed successText tag.call tag.own tag.guarded
 returns-3 c =
-    let known = c .before .before .before .before .before .before .before .before .before .before .before .args in
+    let known = c .before .before .before .before .before .before .before .before .before .before .args in
     rw (c .before .before .before .before .before .before .enum-told2 .given .1)
     (performs-completed (asks (tag.accountKey (known .bytes .now))) (known .u) (ascii "answer=key\n") (omega arith) (λ o. refl) (call-quiet (tag.accountKey (known .bytes .now)) answerRoom (known .u) refl) (c .before .before .before .before .before .account-key .ensures) (c .before .before .completed3 .ensures))
 
@@ -107,19 +95,9 @@ same-length-4 c = search needs
 returns-4 : tie.Need-returns-4
 unfolding performed successText tag.call tag.own tag.guarded
 returns-4 c =
-    let known = c .before .before .before .before .before .before .before .before .before .before .before .args in
+    let known = c .before .before .before .before .before .before .before .before .before .before .args in
     rw (c .before .before .before .before .before .before .enum-told3 .given .1)
-    (performs-completed (asks (tag.identifier (known .r .now) (known .bytes .now))) (known .u) (ascii "answer=identifier\n") (omega arith) (λ o. refl) (call-quiet (tag.identifier (known .r .now) (known .bytes .now)) answerRoom (known .u) refl) (c .before .before .before .before .before .lend-identifier .ensures) (c .before .before .completed4 .ensures))
-
-same-length-5 : tie.Need-same-length-5
-same-length-5 c = search needs
-
-returns-5 : tie.Need-returns-5
-unfolding performed successText tag.call tag.own tag.guarded
-returns-5 c =
-    let known = c .before .before .before .before .before .before .before .before .before .before .before .args in
-    rw (c .before .before .before .before .before .before .enum-told4 .given .1)
-    (performs-completed (asks tag.disconnect) (known .u) (ascii "answer=disconnect\n") (omega arith) (λ o. refl) (call-quiet tag.disconnect answerRoom (known .u) refl) (c .before .before .before .before .before .disconnect .ensures) (c .before .before .completed5 .ensures))
+    (performs-completed (asks tag.disconnect) (known .u) (ascii "answer=disconnect\n") (omega arith) (λ o. refl) (call-quiet tag.disconnect answerRoom (known .u) refl) (c .before .before .before .before .before .disconnect .ensures) (c .before .before .completed4 .ensures))
 
 pub set-spec : {M : Type 1} → statement M
 set-spec =
@@ -138,13 +116,9 @@ set-spec =
     slice-aggregate-completed-3
     completed-requires-3
     enum-told-3
-    lend-identifier-requires
+    disconnect-requires
     slice-aggregate-completed-4
     completed-requires-4
-    enum-told-4
-    disconnect-requires
-    slice-aggregate-completed-5
-    completed-requires-5
     same-length
     returns
     same-length-2
@@ -152,6 +126,4 @@ set-spec =
     same-length-3
     returns-3
     same-length-4
-    returns-4
-    same-length-5
-    returns-5)
+    returns-4)

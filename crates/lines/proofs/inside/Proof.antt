@@ -92,24 +92,6 @@ slice-aggregate-octets-3 c = search needs
 octets-requires-3 : tie.Need-octets-requires-3
 octets-requires-3 c κs = search needs
 
-enum-told-11 : tie.Need-enum-told-11
-enum-told-11 c = search needs
-
-slice-aggregate-octets-4 : tie.Need-slice-aggregate-octets-4
-slice-aggregate-octets-4 c = search needs
-
-octets-requires-4 : tie.Need-octets-requires-4
-octets-requires-4 c κs = search needs
-
-enum-told-12 : tie.Need-enum-told-12
-enum-told-12 c = search needs
-
-slice-aggregate-octets-5 : tie.Need-slice-aggregate-octets-5
-slice-aggregate-octets-5 c = search needs
-
-octets-requires-5 : tie.Need-octets-requires-5
-octets-requires-5 c κs = search needs
-
 returns : tie.Need-returns
 returns c = says-of (c .before .before .before .before .before .before .args .line .now) (c .before .before .enum-told .given .1) (says-plain (c .before .power .ensures) (c .plain .ensures))
 
@@ -156,20 +138,6 @@ returns-10 : tie.Need-returns-10
 unfolding held
 returns-10 c = says-of (c .before .before .before .before .before .before .before .before .before .args .line .now) (c .before .before .before .before .before .enum-told10 .given .1) (c .before .before .octets3 .ensures)
 
-same-length-4 : tie.Need-same-length-4
-same-length-4 c = search needs
-
-returns-11 : tie.Need-returns-11
-unfolding held
-returns-11 c = says-of (c .before .before .before .before .before .before .before .before .before .args .line .now) (c .before .before .before .before .before .enum-told11 .given .1) (c .before .before .octets4 .ensures)
-
-same-length-5 : tie.Need-same-length-5
-same-length-5 c = search needs
-
-returns-12 : tie.Need-returns-12
-unfolding held
-returns-12 c = says-of (c .before .before .before .before .before .before .before .before .before .args .line .now) (c .before .before .before .before .before .enum-told12 .given .1) (c .before .before .octets5 .ensures)
-
 pub inside-spec : {M : Type 1} → statement M
 inside-spec =
     tie.close
@@ -203,12 +171,6 @@ inside-spec =
     enum-told-10
     slice-aggregate-octets-3
     octets-requires-3
-    enum-told-11
-    slice-aggregate-octets-4
-    octets-requires-4
-    enum-told-12
-    slice-aggregate-octets-5
-    octets-requires-5
     returns
     returns-2
     returns-3
@@ -221,8 +183,4 @@ inside-spec =
     returns-8
     returns-9
     same-length-3
-    returns-10
-    same-length-4
-    returns-11
-    same-length-5
-    returns-12)
+    returns-10)

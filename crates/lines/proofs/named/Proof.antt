@@ -96,19 +96,9 @@ returns-9 : tie.Need-returns-9
 unfolding named
 returns-9 c = record { lineIs = λ p n kept m b. skip (c .before .before .before .before .before .before .before .before .before .before .before .before .before .before .before .before .before .before .before .before .before .before .before .before .before .same .ensures) _ _ (c .before .before .before .before .before .before .before .before .before .before .before .before .before .before .before .before .before .before .before .before .before .before .before .before .if1 .left) (skip (c .before .before .before .before .before .before .before .before .before .before .before .before .before .before .before .before .before .before .before .before .before .before .same2 .ensures) _ _ (c .before .before .before .before .before .before .before .before .before .before .before .before .before .before .before .before .before .before .before .before .before .if2 .left) (skip (c .before .before .before .before .before .before .before .before .before .before .before .before .before .before .before .before .before .before .before .same3 .ensures) _ _ (c .before .before .before .before .before .before .before .before .before .before .before .before .before .before .before .before .before .before .if3 .left) (skip (c .before .before .before .before .before .before .before .before .before .before .before .before .before .before .before .before .same4 .ensures) _ _ (c .before .before .before .before .before .before .before .before .before .before .before .before .before .before .before .if4 .left) (skip (c .before .before .before .before .before .before .before .before .before .before .before .before .before .same5 .ensures) _ _ (c .before .before .before .before .before .before .before .before .before .before .before .before .if5 .left) (skip (c .before .before .before .before .before .before .before .before .before .before .same6 .ensures) _ _ (c .before .before .before .before .before .before .before .before .before .if6 .left) (skip (c .before .before .before .before .before .before .before .same7 .ensures) _ _ (c .before .before .before .before .before .before .if7 .left) (skip (c .before .before .before .before .same8 .ensures) _ _ (c .before .before .before .if8 .left) (met (c .before .same9 .ensures) _ _ (c .if9 .taken))))))))) }
 
-slice-aggregate-same-10 : tie.Need-slice-aggregate-same-10
-slice-aggregate-same-10 c = search needs
-
-same-requires-10 : tie.Need-same-requires-10
-same-requires-10 c κs = search needs
-
 returns-10 : tie.Need-returns-10
 unfolding named
-returns-10 c = record { lineIs = λ p n kept m b. skip (c .before .before .before .before .before .before .before .before .before .before .before .before .before .before .before .before .before .before .before .before .before .before .before .before .before .before .before .before .same .ensures) _ _ (c .before .before .before .before .before .before .before .before .before .before .before .before .before .before .before .before .before .before .before .before .before .before .before .before .before .before .before .if1 .left) (skip (c .before .before .before .before .before .before .before .before .before .before .before .before .before .before .before .before .before .before .before .before .before .before .before .before .before .same2 .ensures) _ _ (c .before .before .before .before .before .before .before .before .before .before .before .before .before .before .before .before .before .before .before .before .before .before .before .before .if2 .left) (skip (c .before .before .before .before .before .before .before .before .before .before .before .before .before .before .before .before .before .before .before .before .before .before .same3 .ensures) _ _ (c .before .before .before .before .before .before .before .before .before .before .before .before .before .before .before .before .before .before .before .before .before .if3 .left) (skip (c .before .before .before .before .before .before .before .before .before .before .before .before .before .before .before .before .before .before .before .same4 .ensures) _ _ (c .before .before .before .before .before .before .before .before .before .before .before .before .before .before .before .before .before .before .if4 .left) (skip (c .before .before .before .before .before .before .before .before .before .before .before .before .before .before .before .before .same5 .ensures) _ _ (c .before .before .before .before .before .before .before .before .before .before .before .before .before .before .before .if5 .left) (skip (c .before .before .before .before .before .before .before .before .before .before .before .before .before .same6 .ensures) _ _ (c .before .before .before .before .before .before .before .before .before .before .before .before .if6 .left) (skip (c .before .before .before .before .before .before .before .before .before .before .same7 .ensures) _ _ (c .before .before .before .before .before .before .before .before .before .if7 .left) (skip (c .before .before .before .before .before .before .before .same8 .ensures) _ _ (c .before .before .before .before .before .before .if8 .left) (skip (c .before .before .before .before .same9 .ensures) _ _ (c .before .before .before .if9 .left) (met (c .before .same10 .ensures) _ _ (c .if10 .taken)))))))))) }
-
-returns-11 : tie.Need-returns-11
-unfolding named
-returns-11 c = record { lineIs = λ p n kept m b. skip (c .before .before .before .before .before .before .before .before .before .before .before .before .before .before .before .before .before .before .before .before .before .before .before .before .before .before .before .before .same .ensures) _ _ (c .before .before .before .before .before .before .before .before .before .before .before .before .before .before .before .before .before .before .before .before .before .before .before .before .before .before .before .if1 .left) (skip (c .before .before .before .before .before .before .before .before .before .before .before .before .before .before .before .before .before .before .before .before .before .before .before .before .before .same2 .ensures) _ _ (c .before .before .before .before .before .before .before .before .before .before .before .before .before .before .before .before .before .before .before .before .before .before .before .before .if2 .left) (skip (c .before .before .before .before .before .before .before .before .before .before .before .before .before .before .before .before .before .before .before .before .before .before .same3 .ensures) _ _ (c .before .before .before .before .before .before .before .before .before .before .before .before .before .before .before .before .before .before .before .before .before .if3 .left) (skip (c .before .before .before .before .before .before .before .before .before .before .before .before .before .before .before .before .before .before .before .same4 .ensures) _ _ (c .before .before .before .before .before .before .before .before .before .before .before .before .before .before .before .before .before .before .if4 .left) (skip (c .before .before .before .before .before .before .before .before .before .before .before .before .before .before .before .before .same5 .ensures) _ _ (c .before .before .before .before .before .before .before .before .before .before .before .before .before .before .before .if5 .left) (skip (c .before .before .before .before .before .before .before .before .before .before .before .before .before .same6 .ensures) _ _ (c .before .before .before .before .before .before .before .before .before .before .before .before .if6 .left) (skip (c .before .before .before .before .before .before .before .before .before .before .same7 .ensures) _ _ (c .before .before .before .before .before .before .before .before .before .if7 .left) (skip (c .before .before .before .before .before .before .before .same8 .ensures) _ _ (c .before .before .before .before .before .before .if8 .left) (skip (c .before .before .before .before .same9 .ensures) _ _ (c .before .before .before .if9 .left) (skip (c .before .same10 .ensures) _ _ (c .if10 .left) (refl)))))))))) }
+returns-10 c = record { lineIs = λ p n kept m b. skip (c .before .before .before .before .before .before .before .before .before .before .before .before .before .before .before .before .before .before .before .before .before .before .before .before .before .same .ensures) _ _ (c .before .before .before .before .before .before .before .before .before .before .before .before .before .before .before .before .before .before .before .before .before .before .before .before .if1 .left) (skip (c .before .before .before .before .before .before .before .before .before .before .before .before .before .before .before .before .before .before .before .before .before .before .same2 .ensures) _ _ (c .before .before .before .before .before .before .before .before .before .before .before .before .before .before .before .before .before .before .before .before .before .if2 .left) (skip (c .before .before .before .before .before .before .before .before .before .before .before .before .before .before .before .before .before .before .before .same3 .ensures) _ _ (c .before .before .before .before .before .before .before .before .before .before .before .before .before .before .before .before .before .before .if3 .left) (skip (c .before .before .before .before .before .before .before .before .before .before .before .before .before .before .before .before .same4 .ensures) _ _ (c .before .before .before .before .before .before .before .before .before .before .before .before .before .before .before .if4 .left) (skip (c .before .before .before .before .before .before .before .before .before .before .before .before .before .same5 .ensures) _ _ (c .before .before .before .before .before .before .before .before .before .before .before .before .if5 .left) (skip (c .before .before .before .before .before .before .before .before .before .before .same6 .ensures) _ _ (c .before .before .before .before .before .before .before .before .before .if6 .left) (skip (c .before .before .before .before .before .before .before .same7 .ensures) _ _ (c .before .before .before .before .before .before .if7 .left) (skip (c .before .before .before .before .same8 .ensures) _ _ (c .before .before .before .if8 .left) (skip (c .before .same9 .ensures) _ _ (c .if9 .left) (refl))))))))) }
 
 pub named-spec : {M : Type 1} → statement M
 named-spec =
@@ -141,7 +131,4 @@ named-spec =
     slice-aggregate-same-9
     same-requires-9
     returns-9
-    slice-aggregate-same-10
-    same-requires-10
-    returns-10
-    returns-11)
+    returns-10)

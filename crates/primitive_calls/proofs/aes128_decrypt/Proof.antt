@@ -13,13 +13,13 @@ returns : tie.Need-returns
 unfolding decrypted
 returns c =
     let a = c .before .before .before .before .args in
-    block-refused (now (a .key)) (now (a .block)) (InvAES128 (now (a .key)) (now (a .block))) (now (a .answer)) (λ k b. omega arith)
+    block-refused 16 (now (a .key)) (now (a .block)) (InvAES128 (now (a .key)) (now (a .block))) (now (a .answer)) (λ k b. omega arith)
 
 returns-2 : tie.Need-returns-2
 unfolding decrypted
 returns-2 c =
     let a = c .before .before .before .before .before .args in
-    block-refused (now (a .key)) (now (a .block)) (InvAES128 (now (a .key)) (now (a .block))) (now (a .answer)) (λ k b. omega arith)
+    block-refused 16 (now (a .key)) (now (a .block)) (InvAES128 (now (a .key)) (now (a .block))) (now (a .answer)) (λ k b. omega arith)
 
 sixteen-requires : tie.Need-sixteen-requires
 sixteen-requires c κs = search needs
@@ -44,7 +44,7 @@ unfolding decrypted
 returns-3 c =
     let a = c .before .before .before .before .before .before .before .before .before .before .before .before .before .args in
     let done = c .before .before .before .before .before .decrypt in
-    block-given (now (a .key)) (now (a .block)) (InvAES128 (now (a .key)) (now (a .block))) (now (a .answer)) (done .result)
+    block-given 16 (now (a .key)) (now (a .block)) (InvAES128 (now (a .key)) (now (a .block))) (now (a .answer)) (done .result)
     (c .before .before .give .last .0) (c .before .before .give .result) (omega arith) (omega arith) (search needs)
     (done .ensures ∙ ap₂ InvAES128 (c .before .before .before .before .before .before .before .sixteen .ensures) (c .before .before .before .before .before .before .sixteen2 .ensures))
     (c .before .before .give .ensures)

@@ -73,22 +73,16 @@ put-byte-requires-2 c κs =
     let put-flag-at = c .before .before .before in
     omega (arith, late put-flag-at)
 
-put-requires-9 : tie.Need-put-requires-9
-put-requires-9 c κs =
-    let put-flag-at = c .before .before .before .before .before .before .before in
-    omega (arith, late put-flag-at)
-
 same-length : tie.Need-same-length
 same-length c =
-    let put-flag-at = c .before .before .before .before .before .before .before .before .before .before in
-    let start = put-flag-at .before .before .before .before .before .before .before .before .before .before .before .before .before .before .before .before .before .before .before .before .before .before .before .before .before .before .before .before .before .before .before .before .before .before .before .before .before .before .before .before .before .before .before .before .before .before .before .before .before .before .before .before .before .before .before in
+    let put-flag-at = c .before .before .before .before .before .before in
+    let start = put-flag-at .before .before .before .before .before .before .before .before .before .before .before .before .before .before .before .before .before .before .before .before .before .before .before .before .before .before .before .before .before .before .before .before .before .before .before .before .before .before .before .before .before .before .before .before .before .before .before .before .before .before .before .before .before .before in
     omega (arith, late put-flag-at, start .pre)
 
 returns : tie.Need-returns
 unfolding encoded bytesOf unitFields
 returns c =
-    let put9-at = c .before .before in
-    let put-byte2-at = put9-at .before .before .before .before in
+    let put-byte2-at = c .before .before in
     let put-flag-at = put-byte2-at .before .before .before .before in
     let put-tenths-at = put-flag-at .before .before .before .before in
     let put8-at = put-tenths-at .before .before .before .before in
@@ -101,10 +95,10 @@ returns c =
     let put2-at = put3-at .before .before .before .before in
     let put-at = put2-at .before .before .before .before in
     let put-byte-at = put-at .before .before .before .before in
-    let start = put-byte-at .before .before .before .before .before .before .before .before .before .before .before in
+    let start = put-byte-at .before .before .before .before .before .before .before .before .before .before in
     let begun : length (put-byte-at .put-byte .last .0) ≡ recordSize = omega (arith, start .pre, put-byte-at .put-byte .kept .0) in
     puts-all (puts-then (put-byte-at .put-byte .ensures)
-    (puts-then (puts-then (puts-then (puts-then (puts-then (puts-then (puts-then (puts-then (puts-then (puts-then (puts-then (puts-then (puts-then (puts-none 1 (put-byte-at .put-byte .last .0))
+    (puts-then (puts-then (puts-then (puts-then (puts-then (puts-then (puts-then (puts-then (puts-then (puts-then (puts-then (puts-then (puts-none 1 (put-byte-at .put-byte .last .0))
     (put-at .put .ensures) (omega arith))
     (put2-at .put2 .ensures) (omega arith))
     (put3-at .put3 .ensures) (omega arith))
@@ -116,8 +110,7 @@ returns c =
     (put8-at .put8 .ensures) (omega arith))
     (put-tenths-at .put-tenths .ensures) (omega arith))
     (put-flag-at .put-flag .ensures) (omega arith))
-    (put-byte2-at .put-byte2 .ensures) (omega arith))
-    (put9-at .put9 .ensures) (omega arith)) (omega (arith, start .pre)))
+    (put-byte2-at .put-byte2 .ensures) (omega arith)) (omega (arith, start .pre)))
     (start .pre)
 
 pub encode-spec : {M : Type 1} → statement M
@@ -137,6 +130,5 @@ encode-spec =
     put-tenths-requires
     put-flag-requires
     put-byte-requires-2
-    put-requires-9
     same-length
     returns)

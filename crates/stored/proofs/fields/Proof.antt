@@ -41,14 +41,10 @@ flag-requires c κs = search needs
 shared-slice-read-battery : tie.Need-shared-slice-read-battery
 shared-slice-read-battery c = search needs
 
-read-requires-9 : tie.Need-read-requires-9
-read-requires-9 c κs = search needs
-
 returns : tie.Need-returns
 unfolding valueOf unitFields
 returns c =
-    let read9-at = c in
-    let flag-at = read9-at .before .before in
+    let flag-at = c .before in
     let tenths-at = flag-at .before in
     let read8-at = tenths-at .before in
     let nonce-at = read8-at .before in
@@ -60,7 +56,7 @@ returns c =
     let read2-at = read3-at .before in
     let read-at = read2-at .before in
     rw (read-at .read .ensures, read2-at .read2 .ensures, read3-at .read3 .ensures, read4-at .read4 .ensures, read5-at .read5 .ensures, read6-at .read6 .ensures)
-    (rw (read7-at .read7 .ensures, nonce-at .nonce .ensures, read8-at .read8 .ensures, tenths-at .tenths .ensures, flag-at .flag .ensures, read9-at .read9 .ensures))
+    (rw (read7-at .read7 .ensures, nonce-at .nonce .ensures, read8-at .read8 .ensures, tenths-at .tenths .ensures, flag-at .flag .ensures))
 
 pub fields-spec : {M : Type 1} → statement M
 fields-spec =
@@ -78,5 +74,4 @@ fields-spec =
     tenths-requires
     flag-requires
     shared-slice-read-battery
-    read-requires-9
     returns)

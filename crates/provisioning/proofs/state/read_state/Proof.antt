@@ -4,7 +4,7 @@ use Rattle.authentication.proofs.Judged.{denial, grant}
 use Rattle.laws.proofs.Flags.{granted, refuted}
 use Rattle.unit.proofs.Lines.{lines, accounts-legal}
 use Rattle.wire.specs.Shape.{request}
-use mathlib.Core.Path.{_≡_, refl, sym, ap, _∙_}
+use mathlib.Core.Path.{_≡_, refl, ap}
 use native.Mathlib.Omega.{arith}
 use Rattle.provisioning.proofs.Judging.{owned-held, owned-ready, state-nowhere, state-read, shown-all, shown-none}
 use Rattle.unit.specs.WellFormed.{ownerKey, heldKeys}
@@ -67,8 +67,8 @@ owns-requires c κs =
 state-bits-requires : tie.Need-state-bits-requires
 state-bits-requires c κs = search needs
 
-stands-requires : tie.Need-stands-requires
-stands-requires c κs = search needs
+current-requires : tie.Need-current-requires
+current-requires c κs = search needs
 
 state-of-requires : tie.Need-state-of-requires
 state-of-requires c κs = search needs
@@ -82,9 +82,9 @@ granted-requires c κs = search needs
 returns-2 : tie.Need-returns-2
 returns-2 c =
     let state-of-at = c .before .before in
-    let if1-at = state-of-at .before .before .before in
-    let stands-at = if1-at .before in
-    let state-bits-at = stands-at .before in
+    let if1-at = state-of-at .before .before in
+    let current-at = if1-at .before in
+    let state-bits-at = current-at .before in
     let owns-at = state-bits-at .before in
     let owned-by-at = owns-at .before in
     let signing-key-at = owned-by-at .before in
@@ -95,7 +95,7 @@ returns-2 c =
     grant (start .args .u) (start .args .h .id) (signing-key-at .signing-key .ensures) (c .granted .ensures)
     (rw (state-of-at .state-of .ensures)
     (state-read (start .args .u) (request (start .args .h) (start .args .additional .now)) (found-at .found .given .0 .0) (found-row (used-key-at .used-key .ensures) (found-at .found .given .1)) (key-at-at .key-at .ensures)
-    (owned-by-at .owned-by .ensures) (owns-at .owns .ensures) (state-bits-at .state-bits .ensures) (shown-all (start .args .u) (sym (stands-at .stands .ensures) ∙ if1-at .if1 .taken))))
+    (owned-by-at .owned-by .ensures) (owns-at .owns .ensures) (state-bits-at .state-bits .ensures) (shown-all (start .args .u) (current-at .current .ensures) (if1-at .if1 .taken))))
 
 slice-aggregate-granted-2 : tie.Need-slice-aggregate-granted-2
 slice-aggregate-granted-2 c = search needs
@@ -106,8 +106,8 @@ granted-requires-2 c κs = search needs
 returns-3 : tie.Need-returns-3
 returns-3 c =
     let if1-at = c .before .before in
-    let stands-at = if1-at .before in
-    let state-bits-at = stands-at .before in
+    let current-at = if1-at .before in
+    let state-bits-at = current-at .before in
     let owns-at = state-bits-at .before in
     let owned-by-at = owns-at .before in
     let signing-key-at = owned-by-at .before in
@@ -117,7 +117,7 @@ returns-3 c =
     let start = used-key-at .before .before in
     grant (start .args .u) (start .args .h .id) (signing-key-at .signing-key .ensures) (c .granted2 .ensures)
     (state-read (start .args .u) (request (start .args .h) (start .args .additional .now)) (found-at .found .given .0 .0) (found-row (used-key-at .used-key .ensures) (found-at .found .given .1)) (key-at-at .key-at .ensures)
-    (owned-by-at .owned-by .ensures) (owns-at .owns .ensures) (state-bits-at .state-bits .ensures) (shown-none (start .args .u) (sym (stands-at .stands .ensures) ∙ if1-at .if1 .left)))
+    (owned-by-at .owned-by .ensures) (owns-at .owns .ensures) (state-bits-at .state-bits .ensures) (shown-none (start .args .u) (current-at .current .ensures) (if1-at .if1 .left)))
 
 pub read-state-spec : {M : Type 1} → statement M
 read-state-spec =
@@ -133,7 +133,7 @@ read-state-spec =
     owned-by-requires
     owns-requires
     state-bits-requires
-    stands-requires
+    current-requires
     state-of-requires
     slice-aggregate-granted
     granted-requires

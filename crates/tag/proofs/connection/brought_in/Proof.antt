@@ -6,15 +6,12 @@ use Rattle.tag.proofs.connection.brought_in.Tie as tie
 silenced-requires : tie.Need-silenced-requires
 silenced-requires c κs = search needs
 
-no-identifier-requires : tie.Need-no-identifier-requires
-no-identifier-requires c κs = search needs
-
 no-identity-requires : tie.Need-no-identity-requires
 no-identity-requires c κs = search needs
 
 returns : tie.Need-returns
-returns c = rw (c .before .before .silenced .ensures, c .before .no-identifier .ensures, c .no-identity .ensures)
+returns c = rw (c .before .silenced .ensures, c .no-identity .ensures)
 
 pub brought-in-spec : {M : Type 1} → statement M
 brought-in-spec =
-    tie.close (tie.spec silenced-requires no-identifier-requires no-identity-requires returns)
+    tie.close (tie.spec silenced-requires no-identity-requires returns)

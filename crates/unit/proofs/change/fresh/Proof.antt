@@ -12,12 +12,9 @@ no-identity-requires c κs = search needs
 no-identity-requires-2 : tie.Need-no-identity-requires-2
 no-identity-requires-2 c κs = search needs
 
-no-identifier-requires : tie.Need-no-identifier-requires
-no-identifier-requires c κs = search needs
-
 returns : tie.Need-returns
 returns c =
     cc
 
 pub fresh-spec : {M : Type 1} → statement M
-fresh-spec = tie.close (tie.spec none-requires no-identity-requires no-identity-requires-2 no-identifier-requires returns)
+fresh-spec = tie.close (tie.spec none-requires no-identity-requires no-identity-requires-2 returns)

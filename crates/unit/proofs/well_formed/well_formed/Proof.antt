@@ -1,4 +1,4 @@
--- `unit::well_formed::well_formed` meets its contract: each test is one of the unit's lines, and the last, on the identifier, decides.
+-- `unit::well_formed::well_formed` meets its contract: each test is one of the unit's lines, and the last, on protection, decides.
 use mathlib.Core.Bool.{true, _&&_}
 use mathlib.Core.Path.{_≡_, sym, _∙_}
 use native.Mathlib.Omega.{arith}
@@ -64,15 +64,8 @@ protection-legal-requires : tie.Need-protection-legal-requires
 protection-legal-requires c κs = search needs
 
 returns-8 : tie.Need-returns-8
-returns-8 c = sym (fails _ (λ e. clash (lines _ e .protection) (refuted (c .before .protection-legal .ensures) (c .if8 .taken))))
-
-identifier-legal-requires : tie.Need-identifier-legal-requires
-identifier-legal-requires c κs = search needs
-
-returns-9 : tie.Need-returns-9
-returns-9 c =
-    let protection = c .before .before in
-    let sound = protection .before .before in
+returns-8 c =
+    let sound = c .before in
     let nonces = sound .before .before .before in
     let identity = nonces .before .before .before in
     let owner = identity .before .before .before .before in
@@ -85,7 +78,7 @@ returns-9 c =
     let keys : identityLegal (u .identity) (u .accounts .owner) && identityLegal (u .waiting) (u .accounts .owner) ≡ true =
     granted (identity .before .identities-legal .ensures) (identity .if5 .left) in
     let later = and-right (leb (u .clock .tenth) 9) _ most in
-    c .identifier-legal .ensures
+    c .protection-legal .ensures
     ∙ agree _ _
     (λ e.
     formed u
@@ -98,12 +91,11 @@ returns-9 c =
       waiting = and-right (identityLegal (u .identity) (u .accounts .owner)) _ keys;
       nonces = granted (nonces .before .legal .ensures) (nonces .if6 .left);
       sound = granted (sound .before .sound-legal .ensures) (sound .if7 .left);
-      protection = granted (protection .before .protection-legal .ensures) (protection .if8 .left);
+      protection = e;
       consent = leb-true _ _ (and-left _ _ later);
       battery = leb-true _ _ (and-right (leb (u .consent) fullConsent) _ later);
-      identifier = e;
     }))
-    (λ e. lines u e .identifier)
+    (λ e. lines u e .protection)
 
 pub well-formed-spec : {M : Type 1} → statement M
 well-formed-spec =
@@ -124,6 +116,4 @@ well-formed-spec =
     sound-legal-requires
     returns-7
     protection-legal-requires
-    returns-8
-    identifier-legal-requires
-    returns-9)
+    returns-8)
