@@ -6,11 +6,11 @@ use native.Mathlib.Omega.{arith}
 use borrow.Author.Needs.{needs}
 use lib.ListN.{length, drop, take, length-drop}
 use lib.Seq.{take-all}
-use Rattle.notation.specs.Values.{numeralOf}
-use Rattle.notation.specs.Reading.{unsigned}
-use Rattle.notation.proofs.Numerals.{signed-none, signed-below, signed-above}
-use Rattle.notation.proofs.reading.signed.Statement.{statement}
-use Rattle.notation.proofs.reading.signed.Tie as tie
+use Rattle.reading.specs.Values.{numeralOf}
+use Rattle.reading.specs.Reading.{unsigned}
+use Rattle.reading.proofs.Numerals.{signed-none, signed-below, signed-above}
+use Rattle.reading.proofs.signed.Statement.{statement}
+use Rattle.reading.proofs.signed.Tie as tie
 
 returns : tie.Need-returns
 returns c = signed-none (c .before .before .args .text .now) (omega arith)

@@ -16,8 +16,8 @@ use mir.Val.{toZ, ofZ, SFits}
 use mir.Facts.{toZ-pos, toZ-ofZ}
 use borrow.Author.Tests.{lt-ltb, le-ltb, le-leb, lt-leb, eq-eqb, ne-eqb, ltb-false}
 use Rattle.laws.proofs.Flags.{and-fails-left, and-fails-right, both}
-use Rattle.notation.specs.Reading.{allDigits, valueFrom, isDigit, isNumeral, unsigned, signed, negative, positive, minus}
-use Rattle.notation.specs.Values.{inDigits}
+use Rattle.reading.specs.Reading.{allDigits, valueFrom, isDigit, isNumeral, unsigned, signed, negative, positive, minus}
+use Rattle.reading.specs.Values.{inDigits}
 
 pub and-true : (a : Bool) → a && true ≡ a
 and-true true = refl

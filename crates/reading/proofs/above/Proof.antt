@@ -2,9 +2,9 @@
 use mathlib.Core.Path.{sym}
 use native.Mathlib.Omega.{arith}
 use borrow.Author.Needs.{needs}
-use Rattle.notation.proofs.Numerals.{positive-is, not-positive}
-use Rattle.notation.proofs.reading.above.Statement.{statement}
-use Rattle.notation.proofs.reading.above.Tie as tie
+use Rattle.reading.proofs.Numerals.{positive-is, not-positive}
+use Rattle.reading.proofs.above.Statement.{statement}
+use Rattle.reading.proofs.above.Tie as tie
 
 returns : tie.Need-returns
 returns c = sym (not-positive (c .before .args .n) (omega arith))

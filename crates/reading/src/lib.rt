@@ -3,8 +3,8 @@ ghost use mathlib.Core.Path.{_≡_};
 ghost use Prim.Native.Nat.{_*_, _≤_};
 ghost use lib.ListN.{length, take};
 ghost use Rattle.laws.specs.Bytes.{sameBytes};
-ghost use Rattle.notation.specs.Reading.{unsigned as unsignedOf, signed as signedOf, flag as flagOf, hexValue, negative, positive};
-ghost use Rattle.notation.specs.Values.{numeralOf, signedNumeralOf, switchOf, nibbleOf, inDigits, Unhexes};
+ghost use Rattle.reading.specs.Reading.{unsigned as unsignedOf, signed as signedOf, flag as flagOf, hexValue, negative, positive};
+ghost use Rattle.reading.specs.Values.{numeralOf, signedNumeralOf, switchOf, nibbleOf, inDigits, Unhexes};
 
 pub enum Numeral {
     Value(u32),

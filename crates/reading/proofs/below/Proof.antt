@@ -3,10 +3,10 @@ use mathlib.Core.Path.{sym}
 use native.Mathlib.Omega.{arith}
 use borrow.Author.Needs.{needs}
 use borrow.Author.Tests.{le-ltb}
-use Rattle.notation.specs.Reading.{negative}
-use Rattle.notation.proofs.Numerals.{negative-fits, negative-is, not-negative}
-use Rattle.notation.proofs.reading.below.Statement.{statement}
-use Rattle.notation.proofs.reading.below.Tie as tie
+use Rattle.reading.specs.Reading.{negative}
+use Rattle.reading.proofs.Numerals.{negative-fits, negative-is, not-negative}
+use Rattle.reading.proofs.below.Statement.{statement}
+use Rattle.reading.proofs.below.Tie as tie
 
 returns : tie.Need-returns
 unfolding negative

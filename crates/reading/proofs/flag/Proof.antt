@@ -1,9 +1,9 @@
 -- `replay::reading::flag` meets its contract: the two tests are the definition's.
 use mathlib.Core.Path.{sym, _∙_}
 use borrow.Author.Needs.{needs}
-use Rattle.notation.specs.Reading.{flag}
-use Rattle.notation.proofs.reading.flag.Statement.{statement}
-use Rattle.notation.proofs.reading.flag.Tie as tie
+use Rattle.reading.specs.Reading.{flag}
+use Rattle.reading.proofs.flag.Statement.{statement}
+use Rattle.reading.proofs.flag.Tie as tie
 
 slice-aggregate-same : tie.Need-slice-aggregate-same
 slice-aggregate-same c = search needs

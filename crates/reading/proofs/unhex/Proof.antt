@@ -5,10 +5,10 @@ use mathlib.Core.List.{append-nil}
 use native.Mathlib.Omega.{arith}
 use lib.ListN.{length, take, drop, getD}
 use borrow.Author.Needs.{needs}
-use Rattle.notation.specs.Reading.{bytes, pairValue}
-use Rattle.notation.proofs.Unhexed.{joined, joined-none, joined-more, bytes-end, bytes-odd, bytes-pair, wrong-nibble, right-nibble, wrong-low}
-use Rattle.notation.proofs.reading.unhex.Statement.{statement}
-use Rattle.notation.proofs.reading.unhex.Tie as tie
+use Rattle.reading.specs.Reading.{bytes, pairValue}
+use Rattle.reading.proofs.Unhexed.{joined, joined-none, joined-more, bytes-end, bytes-odd, bytes-pair, wrong-nibble, right-nibble, wrong-low}
+use Rattle.reading.proofs.unhex.Statement.{statement}
+use Rattle.reading.proofs.unhex.Tie as tie
 
 abbrev Inv-loop : tie.InvT-loop
 Inv-loop text into₀ count₀ at₀ into count at =

@@ -5,8 +5,8 @@ use native.Mathlib.Omega.{arith}
 use lib.ListN.{length, take, length-take}
 use lib.Seq.{length-take-le}
 use Rattle.laws.proofs.Same.{lengths-differ}
-use Rattle.notation.proofs.reading.begins.Statement.{statement}
-use Rattle.notation.proofs.reading.begins.Tie as tie
+use Rattle.reading.proofs.begins.Statement.{statement}
+use Rattle.reading.proofs.begins.Tie as tie
 
 returns : tie.Need-returns
 returns c =

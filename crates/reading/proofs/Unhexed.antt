@@ -8,8 +8,8 @@ use native.Mathlib.Omega.{arith}
 use lib.ListN.{length, take, drop, getD, set, drop-of-length-le}
 use lib.Seq.{drop-cons, take-suc-set}
 use borrow.Author.Tests.{lt-ltb, le-ltb}
-use Rattle.notation.specs.Reading.{bytes, hexValue, pairValue}
-use Rattle.notation.specs.Values.{nibbleOf}
+use Rattle.reading.specs.Reading.{bytes, hexValue, pairValue}
+use Rattle.reading.specs.Values.{nibbleOf}
 
 -- bytes in front of what is read
 unfoldable pub joined : List ℕ → Option (List ℕ) → Option (List ℕ)

@@ -7,15 +7,15 @@ use mathlib.Core.Option.{Option, none, some}
 use lib.Dec.{ltb}
 use lib.ListN.{length, take}
 use lib.IntN.{ℤ}
-use Rattle.notation.specs.Reading.{bytes, allDigits, valueFrom}
-use Rattle.notation.specs.declared.reading.Numeral.{Numeral}
-use Rattle.notation.specs.declared.reading.Numeral.the-variants as numeral
-use Rattle.notation.specs.declared.reading.SignedNumeral.{SignedNumeral}
-use Rattle.notation.specs.declared.reading.SignedNumeral.the-variants as signedNumeral
-use Rattle.notation.specs.declared.reading.Switch.{Switch}
-use Rattle.notation.specs.declared.reading.Switch.the-variants as switch
-use Rattle.notation.specs.declared.reading.Octets.{Octets}
-use Rattle.notation.specs.declared.reading.Octets.the-variants as octets
+use Rattle.reading.specs.Reading.{bytes, allDigits, valueFrom}
+use Rattle.reading.specs.declared.Numeral.{Numeral}
+use Rattle.reading.specs.declared.Numeral.the-variants as numeral
+use Rattle.reading.specs.declared.SignedNumeral.{SignedNumeral}
+use Rattle.reading.specs.declared.SignedNumeral.the-variants as signedNumeral
+use Rattle.reading.specs.declared.Switch.{Switch}
+use Rattle.reading.specs.declared.Switch.the-variants as switch
+use Rattle.reading.specs.declared.Octets.{Octets}
+use Rattle.reading.specs.declared.Octets.the-variants as octets
 
 abbrev pub numeralOf : Numeral → Option ℕ
 numeralOf (numeral.Value n) = some n

@@ -3,10 +3,10 @@ use Prim.Native.Nat.{_+_, _*_, _≤_, _<_, _-_, _^_}
 use mathlib.Core.Path.{_≡_, refl, _∙_}
 use native.Mathlib.Omega.{arith}
 use lib.ListN.{length, drop, getD}
-use Rattle.notation.specs.Reading.{allDigits, valueFrom}
-use Rattle.notation.proofs.Numerals.{digits-next, digits-low, digits-high, digits-end, value-next, value-end, value-grows, no-digits, too-large, in-digits}
-use Rattle.notation.proofs.reading.digits.Statement.{statement}
-use Rattle.notation.proofs.reading.digits.Tie as tie
+use Rattle.reading.specs.Reading.{allDigits, valueFrom}
+use Rattle.reading.proofs.Numerals.{digits-next, digits-low, digits-high, digits-end, value-next, value-end, value-grows, no-digits, too-large, in-digits}
+use Rattle.reading.proofs.digits.Statement.{statement}
+use Rattle.reading.proofs.digits.Tie as tie
 
 abbrev Inv-loop : tie.InvT-loop
 Inv-loop text value₀ i₀ value i =

@@ -3,9 +3,9 @@ use Prim.Native.Nat.{_-_}
 use native.Mathlib.Omega.{arith}
 use borrow.Author.Tests.{lt-ltb, le-leb, lt-leb}
 use borrow.Author.Needs.{needs}
-use Rattle.notation.specs.Reading.{hexValue}
-use Rattle.notation.proofs.reading.nibble.Statement.{statement}
-use Rattle.notation.proofs.reading.nibble.Tie as tie
+use Rattle.reading.specs.Reading.{hexValue}
+use Rattle.reading.proofs.nibble.Statement.{statement}
+use Rattle.reading.proofs.nibble.Tie as tie
 
 returns : tie.Need-returns
 unfolding hexValue

@@ -6,9 +6,9 @@ use native.Mathlib.Omega.{arith}
 use lib.ListN.{length, getD}
 use borrow.Author.Tests.{eq-eqb, ne-eqb, lt-ltb, le-ltb}
 use borrow.Author.Needs.{needs}
-use Rattle.notation.proofs.Numerals.{no-shape, in-shape, shaped}
-use Rattle.notation.proofs.reading.unsigned.Statement.{statement}
-use Rattle.notation.proofs.reading.unsigned.Tie as tie
+use Rattle.reading.proofs.Numerals.{no-shape, in-shape, shaped}
+use Rattle.reading.proofs.unsigned.Statement.{statement}
+use Rattle.reading.proofs.unsigned.Tie as tie
 
 returns : tie.Need-returns
 returns c =
