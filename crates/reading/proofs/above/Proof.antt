@@ -1,4 +1,4 @@
--- `replay::reading::above` meets its contract: a number below 2^31 stands for itself.
+-- `reading::above` meets its contract: a number below 2^31 stands for itself.
 use mathlib.Core.Path.{sym}
 use native.Mathlib.Omega.{arith}
 use borrow.Author.Needs.{needs}

@@ -1,4 +1,4 @@
--- `notation::reading::begins` meets its contract: the front of the text, as long as the key, is compared with it.
+-- `reading::begins` meets its contract: the front of the text, as long as the key, is compared with it.
 use borrow.Author.Needs.{needs}
 use mathlib.Core.Path.{sym}
 use native.Mathlib.Omega.{arith}

@@ -1,4 +1,4 @@
--- `replay::reading::below` meets its contract: a number from 1 to 2^31, taken from zero.
+-- `reading::below` meets its contract: a number from 1 to 2^31, taken from zero.
 use mathlib.Core.Path.{sym}
 use native.Mathlib.Omega.{arith}
 use borrow.Author.Needs.{needs}

@@ -1,4 +1,4 @@
--- `replay::reading::digits` meets its contract: the digits passed give the value, and the rest of the text decides.
+-- `reading::digits` meets its contract: the digits passed give the value, and the rest of the text decides.
 use Prim.Native.Nat.{_+_, _*_, _≤_, _<_, _-_, _^_}
 use mathlib.Core.Path.{_≡_, refl, _∙_}
 use native.Mathlib.Omega.{arith}

@@ -1,4 +1,4 @@
--- `replay::reading::flag` meets its contract: the two tests are the definition's.
+-- `reading::flag` meets its contract: the two tests are the definition's.
 use mathlib.Core.Path.{sym, _∙_}
 use borrow.Author.Needs.{needs}
 use Rattle.reading.specs.Reading.{flag}

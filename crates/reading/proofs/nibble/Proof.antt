@@ -1,4 +1,4 @@
--- `replay::reading::nibble` meets its contract: each test is one of the definition's.
+-- `reading::nibble` meets its contract: each test is one of the definition's.
 use Prim.Native.Nat.{_-_}
 use native.Mathlib.Omega.{arith}
 use borrow.Author.Tests.{lt-ltb, le-leb, lt-leb}

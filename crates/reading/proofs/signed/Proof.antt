@@ -1,4 +1,4 @@
--- `replay::reading::signed` meets its contract: the digits with or without a minus before them.
+-- `reading::signed` meets its contract: the digits with or without a minus before them.
 use mathlib.Core.Option.{none, some}
 use Prim.Native.Nat.{_-_}
 use mathlib.Core.Path.{_≡_, sym, ap, _∙_}

@@ -1,4 +1,4 @@
--- `replay::reading::unhex` meets its contract: the bytes read so far stand in front of what the rest of the text gives.
+-- `reading::unhex` meets its contract: the bytes read so far stand in front of what the rest of the text gives.
 use Prim.Native.Nat.{_+_, _*_, _≤_, _-_}
 use mathlib.Core.Path.{_≡_, sym, _∙_}
 use mathlib.Core.List.{append-nil}

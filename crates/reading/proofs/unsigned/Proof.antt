@@ -1,4 +1,4 @@
--- `replay::reading::unsigned` meets its contract: the tests are on the numeral's shape, and the digits decide.
+-- `reading::unsigned` meets its contract: the tests are on the numeral's shape, and the digits decide.
 use mathlib.Core.Path.{_≡_, _∙_}
 use mathlib.Core.Bool.{true}
 use mathlib.Core.Logic.{⊎-elim}

@@ -1,9 +1,9 @@
--- `rounds::steps::mix_columns` mixes the four columns.
+-- `steps::forward::mix_columns` mixes the four columns.
 use Rattle.steps.specs.Steps.{MixColumns}
 use Rattle.steps.proofs.Mixing.{columns-mixed}
 use borrow.Author.Needs.{needs}
-use Rattle.steps.proofs.steps.mix_columns.Statement.{statement}
-use Rattle.steps.proofs.steps.mix_columns.Tie as tie
+use Rattle.steps.proofs.forward.mix_columns.Statement.{statement}
+use Rattle.steps.proofs.forward.mix_columns.Tie as tie
 
 array-read-mixed-column : tie.Need-array-read-mixed-column
 array-read-mixed-column c = search needs

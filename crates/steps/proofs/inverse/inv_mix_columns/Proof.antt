@@ -1,9 +1,9 @@
--- `rounds::inv_steps::inv_mix_columns` mixes the four columns.
+-- `steps::inverse::inv_mix_columns` mixes the four columns.
 use Rattle.steps.specs.Steps.{InvMixColumns}
 use Rattle.steps.proofs.Mixing.{columns-mixed}
 use borrow.Author.Needs.{needs}
-use Rattle.steps.proofs.inv_steps.inv_mix_columns.Statement.{statement}
-use Rattle.steps.proofs.inv_steps.inv_mix_columns.Tie as tie
+use Rattle.steps.proofs.inverse.inv_mix_columns.Statement.{statement}
+use Rattle.steps.proofs.inverse.inv_mix_columns.Tie as tie
 
 array-read-unmixed-column : tie.Need-array-read-unmixed-column
 array-read-unmixed-column c = search needs

@@ -1,4 +1,4 @@
--- `rounds::steps::add_round_key` meets its contract: the loop fills the next state from the front.
+-- `steps::forward::add_round_key` meets its contract: the loop fills the next state from the front.
 use mathlib.Core.Path.{_≡_, refl, sym, _∙_}
 use Prim.Native.Nat.{_-_, _≤_, _<_}
 use native.Mathlib.Omega.{arith}
@@ -6,8 +6,8 @@ use borrow.Author.Needs.{needs}
 use lib.ListN.{length, replicate}
 use Rattle.laws.proofs.Tabulate.{filledTo, filled-none, filled-turn, filled-all}
 use Rattle.steps.proofs.State.{keyPlace, key-tabulate}
-use Rattle.steps.proofs.steps.add_round_key.Statement.{statement}
-use Rattle.steps.proofs.steps.add_round_key.Tie as tie
+use Rattle.steps.proofs.forward.add_round_key.Statement.{statement}
+use Rattle.steps.proofs.forward.add_round_key.Tie as tie
 
 abbrev Inv-loop : tie.InvT-loop
 Inv-loop keys round s start out₀ i₀ out i = (i ≤ 16) × (out ≡ filledTo i (keyPlace keys round s) (replicate 16 0))

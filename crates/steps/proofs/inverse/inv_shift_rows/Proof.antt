@@ -1,10 +1,10 @@
--- `rounds::inv_steps::inv_shift_rows` meets its contract: antt computes the definition's place for each of the 16.
+-- `steps::inverse::inv_shift_rows` meets its contract: antt computes the definition's place for each of the 16.
 use mathlib.Core.Path.{refl}
 use Rattle.laws.specs.Bytes.{tabulate}
 use Rattle.steps.specs.Steps.{stateOf, InvShiftRows}
 use borrow.Author.Needs.{needs}
-use Rattle.steps.proofs.inv_steps.inv_shift_rows.Statement.{statement}
-use Rattle.steps.proofs.inv_steps.inv_shift_rows.Tie as tie
+use Rattle.steps.proofs.inverse.inv_shift_rows.Statement.{statement}
+use Rattle.steps.proofs.inverse.inv_shift_rows.Tie as tie
 
 array-read-t5 : tie.Need-array-read-t5
 array-read-t5 c = search needs
