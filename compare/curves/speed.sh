@@ -17,4 +17,4 @@ gcc -O2 -Wall -Wextra -z now -o $out/curve_stack compare/curves/stack.c $out/mul
 python3 compare/curves/compare.py target/bin/curve_vectors "$count"
 python3 compare/curves/speed.py "$count" target/bin/curve_vectors $out/plain $out/openssl_portable $out/openssl
 $out/curve_stack 2>&1 > /dev/null
-size -A target/obj/curve_vectors.o | awk '/^\.text\.(limbs|digits|field|points|curves)::/ { sum += $2 } END { print "code of limbs, digits, field, points and curves:", sum, "bytes" }'
+size -A target/obj/curve_vectors.o | awk '/^\.text\.(limbs|modular|montgomery|digits|field|doubling|addition|points|curves)::/ { sum += $2 } END { print "code of limbs, modular, montgomery, digits, field, doubling, addition, points and curves:", sum, "bytes" }'

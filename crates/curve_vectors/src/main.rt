@@ -11,9 +11,9 @@ use curves::secp160r1::secp160r1;
 use curves::secp256r1::secp256r1;
 use libc::STDIN_FILENO;
 use libc::STDOUT_FILENO;
-use notation::reading::Octets;
-use notation::reading::unhex;
 use notation::text::hex_line;
+use reading::Octets;
+use reading::unhex;
 
 // Prints r and x.
 fn answer(r: &[u8], x: &[u8]) {

@@ -14,12 +14,6 @@ use sizes::BLOCK_SIZE;
 use sizes::DIGEST_SIZE;
 use sleep::Sleep;
 use stored::RECORD_SIZE;
-use unit::Refusal;
-use unit::Reply;
-use unit::change;
-
-// 65,536 times the tenth at which a ring ended stands in the number of elapsed time.
-const ENDED_BASE: u64 = 65536;
 
 // A new unit in the record. Refusals: 2 for a record of another length, then 1 for settings out of range; the bytes then stay.
 #[no_mangle]
@@ -27,11 +21,7 @@ pub extern "C" fn tag_new(bytes: &mut [u8], power: i32, components: u32, selecta
     ensures { λ code. ⌜ Exports (newIn (now (bytes .entry)) (newUnit power components selectable)) code (now (bytes .entry)) (now (bytes .exit)) ⌝ }
 {
     if bytes.len() != RECORD_SIZE {
-        return exports::finish(
-            bytes,
-            change::no_unit(),
-            Reply::Refused(Refusal::NotWellFormed),
-        );
+        return exports::no_record(bytes);
     }
     let step = tag::new_unit(power, components, selectable);
     let after = step.unit;
@@ -86,7 +76,7 @@ pub extern "C" fn tag_elapsed(bytes: &mut [u8], tenths: u32, answer: &mut [u8]) 
     let after = passed.unit;
     let reply = passed.reply;
     let code = exports::finish(bytes, after, reply);
-    code + passed.ended as u64 * ENDED_BASE
+    exports::with_tenths(code, passed.ended)
 }
 
 // The tenths until the next thing that time alone would do, 65,536 times. The record stays. Refusal: 2.
@@ -97,7 +87,7 @@ pub extern "C" fn tag_sleep(bytes: &[u8]) -> u64
     let unit = stored::decode(bytes);
     let sleep = tag::sleep_until(unit);
     match sleep {
-        Sleep::Until(tenths) => tenths as u64 * ENDED_BASE,
+        Sleep::Until(tenths) => exports::with_tenths(0, tenths),
         Sleep::Refused(refusal) => exports::refusal_code(refusal),
     }
 }

@@ -11,9 +11,8 @@ ghost use Rattle.frame_text.specs.Answers.{longestLine, malformedText, p
 ghost use Rattle.frame_text.specs.Taking.{soFar, longer as longerBy, closed as closedAs, ends, Says, Takes};
 use frame::Flags;
 use frame_reader::Seen;
-use notation::reading;
-use notation::reading::Octets;
 use notation::text;
+use reading::Octets;
 use sizes::IDENTIFIER_SIZE;
 
 const NEWLINE: u8 = 10;

@@ -9,7 +9,7 @@ use lib.ListN.{length, take, drop, length-take, length-drop}
 use lib.Seq.{take-all}
 use Rattle.laws.specs.Bytes.{sameBytes}
 use Rattle.laws.proofs.Same.{same-equal}
-use Rattle.notation.specs.Reading.{after}
+use Rattle.reading.specs.Reading.{after}
 use Rattle.lines.specs.Lines.{Line, breaks, given}
 use Rattle.lines.specs.Promises.{valueLine}
 

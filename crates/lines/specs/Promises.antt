@@ -5,7 +5,7 @@ use mathlib.Core.List.{List, []}
 use mathlib.Core.Option.{Option}
 use lib.ListN.{take}
 use lib.IntN.{ℤ}
-use Rattle.notation.specs.Reading.{after}
+use Rattle.reading.specs.Reading.{after}
 use Rattle.events.specs.Promises.{eventOf}
 use Rattle.lines.specs.declared.Awaited as code
 use Rattle.lines.specs.declared.Awaited.the-variants as awaited

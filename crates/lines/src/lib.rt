@@ -3,17 +3,16 @@ ghost use mathlib.Core.Path.{_≡_};
 ghost use Prim.Native.Nat.{_≤_};
 ghost use lib.ListN.{length};
 ghost use mathlib.Core.List.{[]};
-ghost use Rattle.notation.specs.Reading.{unsigned as unsignedOf, bytes as bytesOf};
+ghost use Rattle.reading.specs.Reading.{unsigned as unsignedOf, bytes as bytesOf};
 ghost use Rattle.lines.specs.Lines as lines;
 ghost use Rattle.lines.specs.Promises.{expecting, awaiting, Means, Says, SaysNumber, lineOf, valueLine};
 use events::Ask;
 use events::Event;
 use events::Setting;
-use notation::reading;
-use notation::reading::Numeral;
-use notation::reading::Octets;
-use notation::reading::SignedNumeral;
-use notation::reading::Switch;
+use reading::Numeral;
+use reading::Octets;
+use reading::SignedNumeral;
+use reading::Switch;
 
 // A line of the settings or of an event.
 pub enum Awaited {

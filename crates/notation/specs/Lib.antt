@@ -1,4 +1,2 @@
-pub mod Reading
 pub mod Text
-pub mod Values
 pub mod Written

@@ -1,4 +1,2 @@
-// How a session file writes numbers and bytes: what a value behind a key says, and how an answer is printed. For `replay`: these functions may
-// ask something of their caller.
-pub mod reading;
+// How an answer is printed: numbers and bytes as text. For the crates of the session file: these functions may ask something of their caller.
 pub mod text;

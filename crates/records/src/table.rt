@@ -4,11 +4,11 @@ ghost use Prim.Native.Nat.{_≤_};
 ghost use lib.ListN.{length};
 ghost use Rattle.io.specs.Counts.{Counts};
 use libc::STDOUT_FILENO;
-use notation::reading::Numeral;
-use notation::reading::Octets;
-use notation::reading::one_byte;
-use notation::reading::unhex;
-use notation::reading::unsigned;
+use reading::Numeral;
+use reading::Octets;
+use reading::one_byte;
+use reading::unhex;
+use reading::unsigned;
 
 // The most bytes of a record or an argument.
 pub const MOST: usize = 512;

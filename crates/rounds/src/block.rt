@@ -4,13 +4,13 @@ ghost use Prim.Native.Nat.{_+_, _*_, _≤_};
 ghost use lib.ListN.{length};
 ghost use Rattle.substitution.specs.Box.{SBox, InvSBox, TableOf};
 ghost use Rattle.rounds.specs.Rounds.{Cipher, InvCipher};
-use steps::inv_steps::inv_mix_columns;
-use steps::inv_steps::inv_shift_rows;
-use steps::inv_steps::inv_sub_bytes;
-use steps::steps::add_round_key;
-use steps::steps::mix_columns;
-use steps::steps::shift_rows;
-use steps::steps::sub_bytes;
+use steps::forward::add_round_key;
+use steps::forward::mix_columns;
+use steps::forward::shift_rows;
+use steps::forward::sub_bytes;
+use steps::inverse::inv_mix_columns;
+use steps::inverse::inv_shift_rows;
+use steps::inverse::inv_sub_bytes;
 
 // The block encrypted under the key schedule.
 pub fn cipher(table: &[u8; 256], keys: &[u8], nr: usize, block: [u8; 16]) -> [u8; 16]

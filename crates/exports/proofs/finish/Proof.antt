@@ -1,4 +1,4 @@
--- `firmware::finish::finish` meets its contract: by the end of the call and whether the refusal spends the nonce.
+-- `exports::finish` meets its contract: by the end of the call and whether the refusal spends the nonce.
 use mathlib.Core.Path.{refl, sym, _∙_}
 use borrow.Author.Needs.{needs}
 use Rattle.exports.proofs.finish.Statement.{statement}

@@ -23,16 +23,9 @@ finish-requires c κs =
     let start = decode-at .before .before .before .before in
     passes-whole (start .args .tenths) (length (start .args .answer .now)) (start .args .bytes .now) (decode-at .decode .ensures) (elapsed-at .elapsed .ensures)
 
-cast-result : tie.Need-cast-result
-cast-result c = search needs
-
-mul-result : tie.Need-mul-result
-mul-result c = search needs
-
-add-result : tie.Need-add-result
-add-result c =
-    let struct-known-at = c in
-    let finish-at = struct-known-at .before .before .before in
+with-tenths-requires : tie.Need-with-tenths-requires
+with-tenths-requires c κs =
+    let finish-at = c .before .before in
     let elapsed-at = finish-at .before .before .before .before .before in
     let decode-at = elapsed-at .before .before in
     let start = decode-at .before .before .before .before in
@@ -41,7 +34,7 @@ add-result c =
     let told = elapsed-at .elapsed .ensures .answers in
     let small : endCode (endOf reply) ≤ length lent + 512
     = code-small reply (elapsed (start .args .tenths) (length lent) (decode-at .decode .result) .result) lent (elapsed-at .elapsed .last .1 .1 .0) (told .endIs) (told .bytesAre) (elapsed-at .elapsed .kept .1 .1 .0) in
-    omega (arith, start .good, finish-at .finish .ensures .codeIs, struct-known-at .struct-known)
+    omega (arith, start .good, finish-at .finish .ensures .codeIs)
 
 same-length : tie.Need-same-length
 same-length c = search needs
@@ -55,7 +48,8 @@ returns c =
     let elapsed-at = finish-at .before .before .before .before .before in
     let decode-at = elapsed-at .before .before in
     let start = decode-at .before .before .before .before in
-    passes-exports (start .args .tenths) (length (start .args .answer .now)) (start .args .bytes .now) (decode-at .decode .ensures) (elapsed-at .elapsed .ensures) (finish-at .finish .ensures)
+    rw (c .with-tenths .ensures)
+    (passes-exports (start .args .tenths) (length (start .args .answer .now)) (start .args .bytes .now) (decode-at .decode .ensures) (elapsed-at .elapsed .ensures) (finish-at .finish .ensures))
 
 pub tag-elapsed-spec : {M : Type 1} → statement M
 tag-elapsed-spec =
@@ -64,9 +58,7 @@ tag-elapsed-spec =
     decode-requires
     elapsed-requires
     finish-requires
-    cast-result
-    mul-result
-    add-result
+    with-tenths-requires
     same-length
     same-length-2
     returns)

@@ -1,5 +1,6 @@
 -- `tag_sleep` meets its contract: what the tag promises of the unit that the record means, as one number.
-use mathlib.Core.Path.{refl}
+use mathlib.Core.Path.{_∙_}
+use native.Mathlib.Nat.{zero-add}
 use Rattle.firmware.proofs.Sleeping.{exports-until, exports-refused}
 use borrow.Author.Needs.{needs}
 use Rattle.firmware.proofs.tag_sleep.Statement.{statement}
@@ -14,11 +15,8 @@ sleep-until-requires c κs = search needs
 enum-known-sleep : tie.Need-enum-known-sleep
 enum-known-sleep c = search needs
 
-cast-result : tie.Need-cast-result
-cast-result c = search needs
-
-mul-result : tie.Need-mul-result
-mul-result c = search needs
+with-tenths-requires : tie.Need-with-tenths-requires
+with-tenths-requires c κs = search needs
 
 enum-known-sleep-2 : tie.Need-enum-known-sleep-2
 enum-known-sleep-2 c = search needs
@@ -28,10 +26,10 @@ refusal-code-requires c κs = search needs
 
 returns : tie.Need-returns
 returns c =
-    let known = c .before in
+    let known = c .before .before in
     let until-at = known .before .before in
     let decode-at = until-at .before in
-    rw (decode-at .decode .ensures) at (exports-until (until-at .sleep-until .ensures) (known .sleep .given .1) _ refl)
+    rw (decode-at .decode .ensures) at (exports-until (until-at .sleep-until .ensures) (known .sleep .given .1) _ (c .with-tenths .ensures ∙ zero-add _))
 
 returns-2 : tie.Need-returns-2
 returns-2 c =
@@ -47,8 +45,7 @@ tag-sleep-spec =
     decode-requires
     sleep-until-requires
     enum-known-sleep
-    cast-result
-    mul-result
+    with-tenths-requires
     enum-known-sleep-2
     refusal-code-requires
     returns

@@ -1,4 +1,4 @@
--- `frame::reader::bare` meets its contract: behind a right head only the length counts, and the claimed frame has 8 and the identifier's bytes.
+-- `frame_reader::bare` meets its contract: behind a right head only the length counts, and the claimed frame has 8 and the identifier's bytes.
 use mathlib.Core.Path.{_≡_, sym, ap, _∙_}
 use native.Mathlib.Omega.{arith}
 use lib.ListN.{length}

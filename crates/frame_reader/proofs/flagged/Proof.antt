@@ -1,4 +1,4 @@
--- `frame::reader::flagged` meets its contract: as `bare`, with one byte more.
+-- `frame_reader::flagged` meets its contract: as `bare`, with one byte more.
 use Prim.Native.Nat.{_+_}
 use mathlib.Core.Path.{_≡_, sym, ap, _∙_}
 use native.Mathlib.Omega.{arith}

@@ -1,4 +1,4 @@
--- `frame::reader::flags_right` meets its contract: its three tests are the definition's.
+-- `frame_reader::flags_right` meets its contract: its three tests are the definition's.
 use Rattle.frame_reader.specs.Reader.{flagsRight}
 use borrow.Author.Needs.{needs}
 use Rattle.frame_reader.proofs.flags_right.Statement.{statement}

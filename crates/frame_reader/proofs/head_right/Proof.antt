@@ -1,4 +1,4 @@
--- `frame::reader::head_right` meets its contract. The loop's invariant: the bytes passed are right. It ends at the first byte that is not, at the
+-- `frame_reader::head_right` meets its contract. The loop's invariant: the bytes passed are right. It ends at the first byte that is not, at the
 -- text's end, or with the head.
 use Prim.Native.Nat.{_≤_, _-_}
 use native.Mathlib.Omega.{arith}

@@ -1,4 +1,4 @@
--- `frame::reader::judged` meets its contract: a wrong head is refused at its place, a right one hands on to the form that its length byte says.
+-- `frame_reader::judged` meets its contract: a wrong head is refused at its place, a right one hands on to the form that its length byte says.
 use Prim.Native.Nat.{_≤_}
 use mathlib.Core.Path.{_≡_, sym, ap, _∙_}
 use native.Mathlib.Omega.{arith}

@@ -1,4 +1,4 @@
--- `frame::reader::opened` meets its contract: by the flags byte left out or shown, and the tests of the latter.
+-- `frame_reader::opened` meets its contract: by the flags byte left out or shown, and the tests of the latter.
 use mathlib.Core.Path.{sym, _∙_}
 use Rattle.frame_reader.specs.Reader.{openedBy}
 use borrow.Author.Needs.{needs}

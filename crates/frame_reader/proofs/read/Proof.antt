@@ -1,4 +1,4 @@
--- `frame::reader::read` meets its contract: where the text reads, its identifier stands behind its head.
+-- `frame_reader::read` meets its contract: where the text reads, its identifier stands behind its head.
 use Prim.Native.Nat.{_≤_}
 use native.Mathlib.Omega.{arith}
 use lib.ListN.{length}

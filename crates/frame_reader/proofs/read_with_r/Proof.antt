@@ -1,4 +1,4 @@
--- `frame::reader::read_with_r` meets its contract: the frame's refusal stays, then r's length is judged, then the flags byte.
+-- `frame_reader::read_with_r` meets its contract: the frame's refusal stays, then r's length is judged, then the flags byte.
 use Rattle.frame_reader.proofs.Scanning.{with-refusal, with-wrong-size, with-size}
 use borrow.Author.Needs.{needs}
 use Rattle.frame_reader.proofs.read_with_r.Statement.{statement}

@@ -1,4 +1,4 @@
--- `frame::reader::right` meets its contract: at each place of the head, the byte that it asks for is the one of the frame that the text claims.
+-- `frame_reader::right` meets its contract: at each place of the head, the byte that it asks for is the one of the frame that the text claims.
 use mathlib.Core.Path.{_≡_, refl}
 use native.Mathlib.Omega.{arith}
 use Rattle.frame.specs.Frame.{rendered}

@@ -1,4 +1,4 @@
--- `frame::reader::says_flags` meets its contract: the length byte fits, as every byte does.
+-- `frame_reader::says_flags` meets its contract: the length byte fits, as every byte does.
 use native.Mathlib.Omega.{arith}
 use borrow.Author.Needs.{needs}
 use Rattle.frame_reader.proofs.says_flags.Statement.{statement}

@@ -1,4 +1,4 @@
--- `frame::reader::unmask` meets its contract: the digest is that of r and nothing after it.
+-- `frame_reader::unmask` meets its contract: the digest is that of r and nothing after it.
 use mathlib.Core.List.{append-nil}
 use borrow.Author.Needs.{needs}
 use Rattle.frame_reader.proofs.unmask.Statement.{statement}

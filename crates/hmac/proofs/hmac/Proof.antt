@@ -1,4 +1,4 @@
--- `hash::hmac` is HMAC under the key that it makes ready.
+-- `hmac::hmac` is HMAC under the key that it makes ready.
 use borrow.Author.Needs.{needs}
 use Rattle.hmac.proofs.hmac.Statement.{statement}
 use Rattle.hmac.proofs.hmac.Tie as tie

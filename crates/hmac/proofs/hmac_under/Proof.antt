@@ -1,4 +1,4 @@
--- `hash::hmac_under` is HMAC: the inner and the outer hash go on from the key's hash values.
+-- `hmac::hmac_under` is HMAC: the inner and the outer hash go on from the key's hash values.
 use mathlib.Core.Path.{ap}
 use denote.Ref.{now}
 use Rattle.laws.specs.Bytes.{_⊕_}

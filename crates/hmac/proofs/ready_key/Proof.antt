@@ -1,4 +1,4 @@
--- `hash::ready_key` gives the hash values after the key's block under each mask.
+-- `hmac::ready_key` gives the hash values after the key's block under each mask.
 use borrow.Author.Needs.{needs}
 use Rattle.hmac.specs.Hmac.{keyedBy}
 use Rattle.hmac.proofs.ready_key.Statement.{statement}

@@ -3,10 +3,10 @@ use borrow.Author.Needs.{needs}
 use borrow.Author.Tests.{not-true, not-false}
 use mathlib.Core.List.{[]}
 use mathlib.Core.Path.{refl}
-use Rattle.notation.specs.Reading.{unsigned}
+use Rattle.reading.specs.Reading.{unsigned}
 use Rattle.lines.specs.Lines.{given}
 use Rattle.lines.specs.Promises.{lineOf}
-use Rattle.notation.specs.Values.{numeralOf}
+use Rattle.reading.specs.Values.{numeralOf}
 use Rattle.lines.proofs.KeyedLines.{key-fits, unkeyed-line, value-line}
 use Rattle.lines.proofs.number.Statement.{statement}
 use Rattle.lines.proofs.number.Tie as tie

@@ -3,10 +3,10 @@ use borrow.Author.Needs.{needs}
 use borrow.Author.Tests.{not-true, not-false}
 use Rattle.tag.specs.Calls.{pairing}
 use Rattle.events.specs.Event.{asks}
-use Rattle.notation.specs.Reading.{flag}
+use Rattle.reading.specs.Reading.{flag}
 use Rattle.lines.specs.Lines.{held, given, brings}
 use Rattle.notation.specs.Text.{ascii}
-use Rattle.notation.specs.Values.{switchOf}
+use Rattle.reading.specs.Values.{switchOf}
 use Rattle.lines.proofs.KeyedLines.{key-fits, unkeyed-line, value-line}
 use Rattle.lines.proofs.on.Statement.{statement}
 use Rattle.lines.proofs.on.Tie as tie

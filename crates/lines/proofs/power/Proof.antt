@@ -4,10 +4,10 @@ use borrow.Author.Tests.{not-true, not-false}
 use mathlib.Core.Path.{_≡_, ap, _∙_}
 use mir.Syntax.{w32}
 use mir.Val.{toZ, ofZ}
-use Rattle.notation.specs.Reading.{signed}
+use Rattle.reading.specs.Reading.{signed}
 use Rattle.lines.specs.Lines.{held, given, follows, components}
 use Rattle.notation.specs.Text.{ascii}
-use Rattle.notation.specs.Values.{signedNumeralOf}
+use Rattle.reading.specs.Values.{signedNumeralOf}
 use Rattle.lines.proofs.KeyedLines.{key-fits, unkeyed-line, value-line}
 use Rattle.lines.proofs.power.Statement.{statement}
 use Rattle.lines.proofs.power.Tie as tie

@@ -4,9 +4,9 @@ use borrow.Author.Tests.{not-true, not-false}
 use Prim.Native.Nat.{ℕ}
 use mathlib.Core.List.{List}
 use mathlib.Core.Path.{refl}
-use Rattle.notation.specs.Reading.{oneByte}
+use Rattle.reading.specs.Reading.{oneByte}
 use Rattle.notation.specs.Text.{ascii}
-use Rattle.notation.specs.Values.{numeralOf}
+use Rattle.reading.specs.Values.{numeralOf}
 use Rattle.tag.specs.Calls.{write}
 use Rattle.events.specs.Event.{asks}
 use Rattle.lines.specs.Lines.{Line, held, given, brings}

@@ -1,4 +1,4 @@
--- `events::printing::answered` meets its contract, a case of the reply each.
+-- `printing::answered` meets its contract, a case of the reply each.
 use borrow.Author.Needs.{needs}
 use mathlib.Core.Path.{refl}
 use native.Mathlib.Omega.{arith}

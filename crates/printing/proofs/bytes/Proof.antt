@@ -1,4 +1,4 @@
--- `events::printing::bytes` meets its contract: no bytes print nothing.
+-- `printing::bytes` meets its contract: no bytes print nothing.
 use borrow.Author.Needs.{needs}
 use native.Mathlib.Omega.{arith}
 use Rattle.notation.proofs.Placed.{puts-nothing}

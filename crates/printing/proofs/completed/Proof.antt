@@ -1,4 +1,4 @@
--- `events::printing::completed` meets its contract, a case of the reply each.
+-- `printing::completed` meets its contract, a case of the reply each.
 use borrow.Author.Needs.{needs}
 use mathlib.Core.Path.{refl}
 use Rattle.printing.proofs.completed.Statement.{statement}

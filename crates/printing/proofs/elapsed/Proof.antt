@@ -1,4 +1,4 @@
--- `events::printing::elapsed` meets its contract: the title, the notes and the clock, one after another.
+-- `printing::elapsed` meets its contract: the title, the notes and the clock, one after another.
 use borrow.Author.Needs.{needs}
 use lib.ListN.{take}
 use lib.Seq.{length-take-le}

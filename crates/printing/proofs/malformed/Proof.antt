@@ -1,4 +1,4 @@
--- `events::printing::malformed` meets its contract: the number behind a text.
+-- `printing::malformed` meets its contract: the number behind a text.
 use borrow.Author.Needs.{needs}
 use Rattle.printing.specs.Texts.{malformedText}
 use Rattle.printing.proofs.malformed.Statement.{statement}

@@ -1,4 +1,4 @@
--- `events::printing::notes` meets its contract: without a notice 0, else 1, the tenth and the notice.
+-- `printing::notes` meets its contract: without a notice 0, else 1, the tenth and the notice.
 use borrow.Author.Needs.{needs}
 use lib.ListN.{length-append}
 use mathlib.Core.List.{[], _∷_}

@@ -1,4 +1,4 @@
--- `events::printing::passed` meets its contract, a case of the reply each.
+-- `printing::passed` meets its contract, a case of the reply each.
 use borrow.Author.Needs.{needs}
 use mathlib.Core.Path.{refl}
 use native.Mathlib.Omega.{arith}

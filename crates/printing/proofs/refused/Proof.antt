@@ -1,4 +1,4 @@
--- `events::printing::refused` meets its contract: the refusal's number behind a text.
+-- `printing::refused` meets its contract: the refusal's number behind a text.
 use borrow.Author.Needs.{needs}
 use Rattle.printing.specs.Texts.{refusedText}
 use Rattle.printing.proofs.refused.Statement.{statement}

@@ -1,4 +1,4 @@
--- `events::printing::success` meets its contract: the title, and then the bytes.
+-- `printing::success` meets its contract: the title, and then the bytes.
 use native.Mathlib.Omega.{arith}
 use mathlib.Core.Path.{sym}
 use lib.Seq.{length-take-le}

@@ -1,4 +1,4 @@
--- `hash::key::filled` appends zeros. The loop's invariant: the first i bytes of the key are in place.
+-- `hmac::key::filled` appends zeros. The loop's invariant: the first i bytes of the key are in place.
 use mathlib.Core.Path.{_≡_, refl}
 use Prim.Native.Nat.{_-_, _≤_}
 use native.Mathlib.Omega.{arith}

@@ -1,4 +1,4 @@
--- `hash::key::key_block` takes a key of up to a block as it is, and the hash of a longer one.
+-- `hmac::key::key_block` takes a key of up to a block as it is, and the hash of a longer one.
 use Rattle.hmac.proofs.Keys.{short-key, long-key}
 use borrow.Author.Needs.{needs}
 use Rattle.hmac.proofs.key.key_block.Statement.{statement}

@@ -1,4 +1,4 @@
--- `hash::key::masked` masks a block. The loop's invariant: the bytes before i are masked.
+-- `hmac::key::masked` masks a block. The loop's invariant: the bytes before i are masked.
 use mathlib.Core.Path.{_≡_}
 use Prim.Native.Nat.{_-_, _≤_}
 use native.Mathlib.Omega.{arith}

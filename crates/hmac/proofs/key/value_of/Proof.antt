@@ -1,4 +1,4 @@
--- `hash::key::value_of` gives the hash value after one block.
+-- `hmac::key::value_of` gives the hash value after one block.
 use mathlib.Core.Path.{_≡_, ap, _∙_}
 use lib.ListN.{length}
 use Rattle.padding.proofs.Padded.{length-words}

@@ -1,4 +1,4 @@
--- `compression::schedule::next_word` makes a word in the place of the one sixteen before it.
+-- `message_schedule::schedule::next_word` makes a word in the place of the one sixteen before it.
 use denote.Ref.{now}
 use Rattle.message_schedule.proofs.Words.{sumOf}
 use Rattle.message_schedule.proofs.Window.{made-next}

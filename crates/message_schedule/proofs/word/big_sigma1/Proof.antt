@@ -1,4 +1,4 @@
--- `compression::word::big_sigma1` is Σ1, by computation.
+-- `message_schedule::word::big_sigma1` is Σ1, by computation.
 use mathlib.Core.Path.{refl}
 use Rattle.message_schedule.specs.Schedule.{Σ1}
 use Rattle.message_schedule.proofs.word.big_sigma1.Statement.{statement}

@@ -1,4 +1,4 @@
--- `compression::word::ch` is Ch in its short form.
+-- `message_schedule::word::ch` is Ch in its short form.
 use borrow.Author.Needs.{needs}
 use Rattle.message_schedule.proofs.Digits.{short-ch}
 use Rattle.message_schedule.proofs.word.ch.Statement.{statement}

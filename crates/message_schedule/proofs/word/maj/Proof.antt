@@ -1,4 +1,4 @@
--- `compression::word::maj` is Maj in its short form.
+-- `message_schedule::word::maj` is Maj in its short form.
 use borrow.Author.Needs.{needs}
 use Rattle.message_schedule.proofs.Digits.{short-maj}
 use Rattle.message_schedule.proofs.word.maj.Statement.{statement}

@@ -1,4 +1,4 @@
--- `replay::text::decimal` meets its contract: what is left of the number and the digits behind `first` are the whole.
+-- `notation::text::decimal` meets its contract: what is left of the number and the digits behind `first` are the whole.
 use Prim.Native.Nat.{ℕ, _%_, _+_, _≤_, _<_, _-_}
 use mathlib.Core.Logic.{_⊎_, ⊎-elim, inl, inr}
 use mathlib.Core.List.{List, append-nil}

@@ -1,4 +1,4 @@
--- `replay::text::decimal_line` meets its contract: the number between two texts.
+-- `notation::text::decimal_line` meets its contract: the number between two texts.
 use borrow.Author.Needs.{needs}
 use native.Mathlib.Omega.{arith}
 use Rattle.notation.proofs.Decimal.{length-decimal}

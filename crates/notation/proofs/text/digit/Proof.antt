@@ -1,4 +1,4 @@
--- `replay::text::digit` meets its contract: the two branches are those of the definition.
+-- `notation::text::digit` meets its contract: the two branches are those of the definition.
 use borrow.Author.Tests.{lt-ltb, le-ltb}
 use borrow.Author.Needs.{needs}
 use Rattle.notation.specs.Text.{hexDigit}

@@ -1,4 +1,4 @@
--- `replay::text::hex` meets its contract: after `i` turns the digits of the first `i` bytes stand in their place.
+-- `notation::text::hex` meets its contract: after `i` turns the digits of the first `i` bytes stand in their place.
 use Prim.Native.Nat.{_+_, _*_, _≤_, _-_}
 use mathlib.Core.Path.{_≡_, sym, _∙_}
 use native.Mathlib.Omega.{arith}

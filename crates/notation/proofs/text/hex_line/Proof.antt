@@ -1,4 +1,4 @@
--- `replay::text::hex_line` meets its contract: the bytes between two texts.
+-- `notation::text::hex_line` meets its contract: the bytes between two texts.
 use borrow.Author.Needs.{needs}
 use native.Mathlib.Omega.{arith}
 use Rattle.notation.proofs.Hex.{length-hex}

@@ -1,4 +1,4 @@
--- `hash::message::laid_out` lays out the four parts, the mark and the length, one after another.
+-- `padding::message::laid_out` lays out the four parts, the mark and the length, one after another.
 use denote.Ref.{now}
 use Rattle.padding.specs.Padding.{zeros}
 use Rattle.padding.proofs.Padded.{six-laid}

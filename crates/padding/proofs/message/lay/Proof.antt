@@ -1,4 +1,4 @@
--- `hash::message::lay` puts in what falls into the block. The loop's invariant: the part's first k bytes are in place, as far as they fall there.
+-- `padding::message::lay` puts in what falls into the block. The loop's invariant: the part's first k bytes are in place, as far as they fall there.
 use mathlib.Core.Path.{_≡_, _∙_}
 use mathlib.Core.List.{List, _++_}
 use mathlib.Core.Logic.{⊎-elim}

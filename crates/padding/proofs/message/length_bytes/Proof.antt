@@ -1,4 +1,4 @@
--- `hash::message::length_bytes` writes eight bytes. The loop's invariant: the first i bytes are in place.
+-- `padding::message::length_bytes` writes eight bytes. The loop's invariant: the first i bytes are in place.
 use mathlib.Core.Path.{_≡_, refl, sym, _∙_}
 use Prim.Native.Nat.{_-_, _*_, _/_, _%_, _^_, _≤_}
 use native.Mathlib.Omega.{arith}

@@ -1,4 +1,4 @@
--- `hash::message::load` gives a block, from the part that it lies in or laid out.
+-- `padding::message::load` gives a block, from the part that it lies in or laid out.
 use mathlib.Core.Path.{_≡_, _∙_}
 use mathlib.Core.List.{List, _++_}
 use Prim.Native.Nat.{ℕ, _+_, _*_, _^_, _<_}

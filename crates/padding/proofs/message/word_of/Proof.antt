@@ -1,4 +1,4 @@
--- `hash::message::word_of` gives the number of four bytes.
+-- `padding::message::word_of` gives the number of four bytes.
 use native.Mathlib.Omega.{arith}
 use Rattle.laws.specs.Bytes.{number, numberAfter}
 use borrow.Author.Needs.{needs}

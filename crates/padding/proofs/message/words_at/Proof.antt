@@ -1,4 +1,4 @@
--- `hash::message::words_at` reads sixteen words. The loop's invariant: the first t words are in place.
+-- `padding::message::words_at` reads sixteen words. The loop's invariant: the first t words are in place.
 use mathlib.Core.Path.{_≡_, sym, _∙_}
 use Prim.Native.Nat.{_+_, _-_, _*_, _≤_}
 use native.Mathlib.Omega.{arith}

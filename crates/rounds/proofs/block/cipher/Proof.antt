@@ -12,10 +12,10 @@ use Rattle.rounds.proofs.block.cipher.Statement.{statement}
 use Rattle.rounds.proofs.block.cipher.Tie as tie
 use Rattle.rounds.proofs.block.cipher.Reads as reads
 use Rattle.rounds.proofs.block.cipher.Lts as lts
-use Rattle.steps.proofs.steps.add_round_key.Reads as add-round-key-reads
-use Rattle.steps.proofs.steps.mix_columns.Reads as mix-columns-reads
-use Rattle.steps.proofs.steps.shift_rows.Reads as shift-rows-reads
-use Rattle.steps.proofs.steps.sub_bytes.Reads as sub-bytes-reads
+use Rattle.steps.proofs.forward.add_round_key.Reads as add-round-key-reads
+use Rattle.steps.proofs.forward.mix_columns.Reads as mix-columns-reads
+use Rattle.steps.proofs.forward.shift_rows.Reads as shift-rows-reads
+use Rattle.steps.proofs.forward.sub_bytes.Reads as sub-bytes-reads
 
 abbrev Inv-loop : tie.InvT-loop
 Inv-loop table keys nr s₀ n₀ s n = (n ≤ nr - 1) × ((block : List ℕ) → s₀ ≡ AddRoundKey keys 0 block → s ≡ rounds keys n block)

@@ -10,10 +10,10 @@ use Rattle.rounds.proofs.block.inv_cipher.Statement.{statement}
 use Rattle.rounds.proofs.block.inv_cipher.Tie as tie
 use Rattle.rounds.proofs.block.inv_cipher.Reads as reads
 use Rattle.rounds.proofs.block.inv_cipher.Lts as lts
-use Rattle.steps.proofs.inv_steps.inv_mix_columns.Reads as inv-mix-columns-reads
-use Rattle.steps.proofs.inv_steps.inv_shift_rows.Reads as inv-shift-rows-reads
-use Rattle.steps.proofs.inv_steps.inv_sub_bytes.Reads as inv-sub-bytes-reads
-use Rattle.steps.proofs.steps.add_round_key.Reads as add-round-key-reads
+use Rattle.steps.proofs.inverse.inv_mix_columns.Reads as inv-mix-columns-reads
+use Rattle.steps.proofs.inverse.inv_shift_rows.Reads as inv-shift-rows-reads
+use Rattle.steps.proofs.inverse.inv_sub_bytes.Reads as inv-sub-bytes-reads
+use Rattle.steps.proofs.forward.add_round_key.Reads as add-round-key-reads
 
 abbrev Inv-loop : tie.InvT-loop
 Inv-loop table keys nr s₀ n₀ s n = (n ≤ nr - 1) × (invRounds keys n s ≡ invRounds keys (nr - 1) s₀)

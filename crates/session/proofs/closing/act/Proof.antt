@@ -1,4 +1,4 @@
--- `replay::closing::act` meets its contract: what was read is kept for the lines that follow, or is done.
+-- `session::closing::act` meets its contract: what was read is kept for the lines that follow, or is done.
 use borrow.Author.Needs.{needs}
 use lib.ListN.{take}
 use lib.Seq.{length-take-le}

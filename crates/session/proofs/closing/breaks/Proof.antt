@@ -1,4 +1,4 @@
--- `replay::closing::breaks` meets its contract: the run is ended, and the text is of at most 33 bytes.
+-- `session::closing::breaks` meets its contract: the run is ended, and the text is of at most 33 bytes.
 use native.Mathlib.Omega.{arith}
 use mathlib.Core.Path.{refl}
 use borrow.Author.Needs.{needs}

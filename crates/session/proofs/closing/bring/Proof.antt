@@ -1,4 +1,4 @@
--- `replay::closing::bring` meets its contract: the event is performed, and the run is at the next line.
+-- `session::closing::bring` meets its contract: the event is performed, and the run is at the next line.
 use borrow.Author.Needs.{needs}
 use lib.ListN.{length}
 use lib.Seq.{length-take-le}

@@ -1,4 +1,4 @@
--- `replay::closing::close` meets its contract: a line within the limits is judged by what is expected.
+-- `session::closing::close` meets its contract: a line within the limits is judged by what is expected.
 use borrow.Author.Needs.{needs}
 use lib.ListN.{take}
 use mathlib.Core.Path.{refl, _∙_}

@@ -1,4 +1,4 @@
--- `replay::closing::create` meets its contract: accepted settings print nothing, refused ones end the run.
+-- `session::closing::create` meets its contract: accepted settings print nothing, refused ones end the run.
 use mathlib.Core.Path.{subst, _≡_, refl, sym, ap, _∙_}
 use lib.IntN.{ℤ}
 use mir.Syntax.{w32}

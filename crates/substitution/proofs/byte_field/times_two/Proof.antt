@@ -1,4 +1,4 @@
--- `field::times_two` meets its contract: the shift of a byte, with the modulus taken off, is its product with 2.
+-- `substitution::byte_field::times_two` meets its contract: the shift of a byte, with the modulus taken off, is its product with 2.
 --
 use borrow.Author.Needs.{needs}
 use mathlib.Core.Path.{sym}
