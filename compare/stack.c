@@ -24,7 +24,7 @@ static void encrypt256(void) { tag_aes256_encrypt(message, 32, key, 16, answer, 
 /* 0x00 with the tag of the account key: search, HMAC, AES and the signed answer */
 static void write_of(uint8_t id) {
     uint8_t covered[11] = {1}, tag[32], w[10] = {id, 8};
-    memcpy(covered + 1, record + TAG_NONCE_BYTES_AT, TAG_NONCE_SIZE);
+    memcpy(covered + 1, record + TAG_NONCES_NEWEST_AT, TAG_NONCE_SIZE);
     covered[9] = id, covered[10] = 8;
     tag_hmac_sha256(key, 16, covered, 11, tag, 32);
     memcpy(w + 2, tag, 8);

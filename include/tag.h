@@ -46,7 +46,7 @@ extern "C" {
 #define TAG_BLOCK_SIZE 16 /* of a key of AES-128 too */
 #define TAG_LONGEST_MESSAGE 65535
 #define TAG_MOST_NONCES 16
-#define TAG_MOST_KEYS 5
+#define TAG_MOST_KEYS 10
 
 #define TAG_REFUSAL_BASE 256
 #define TAG_ENDED_BASE 65536
@@ -79,7 +79,7 @@ extern "C" {
 
 /* The record: where each field starts, right behind the one before it. Numbers are big-endian; a flag is 0 or 1; what is absent is zero.
  * The version is raised by every change of the layout; it is never 0x00 or 0xFF. */
-#define TAG_VERSION 0x04
+#define TAG_VERSION 0x05
 #define TAG_VERSION_AT 0 /* TAG_VERSION */
 #define TAG_SETTINGS_POWER_AT (TAG_VERSION_AT + 1) /* 4 bytes, two's complement */
 #define TAG_SETTINGS_COMPONENTS_AT (TAG_SETTINGS_POWER_AT + 4)
@@ -140,7 +140,8 @@ uint64_t tag_pairing(uint8_t *record, uint64_t record_bytes, uint32_t on);
 /* The battery level: 0 unsupported, 1 normal, 2 low, 3 critical. Refusals: 2, 1. Gives 0. */
 uint64_t tag_battery(uint8_t *record, uint64_t record_bytes, uint32_t level);
 
-/* Adds an account key of TAG_ACCOUNT_KEY_SIZE bytes; one already held changes nothing. Refusals: 2, 4 (also for a sixth new key). Gives 0. */
+/* Adds an account key of TAG_ACCOUNT_KEY_SIZE bytes, the most recently used; one already held changes nothing. Of TAG_MOST_KEYS the least
+ * recently used that is not the owner's makes room for it. Refusals: 2, 4 for another length. Gives 0. */
 uint64_t tag_account_key(uint8_t *record, uint64_t record_bytes, const uint8_t *key, uint64_t key_bytes);
 
 /* The phone has hung up: an identity key that waits since an accepted 0x02 comes into force, and a ring then ends without a notice. Without a waiting

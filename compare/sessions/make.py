@@ -18,9 +18,10 @@ import shutil
 import subprocess
 import sys
 
-# The first seven are there for what they put into STORED.
+# The first eight are there for what they put into STORED.
 import disconnecting
 import frames
+import keys
 import matching
 import nonces
 import provisioning

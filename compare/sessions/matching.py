@@ -44,6 +44,8 @@ def recovered_by(place, count):
 STORED["recovery-with-the-second-key-as-owner"] = lambda: recovered_by(1, 2)
 STORED["recovery-with-the-third-key-as-owner"] = lambda: recovered_by(2, 4)
 STORED["recovery-with-the-fifth-key-as-owner"] = lambda: recovered_by(4, 5)
+STORED["recovery-with-the-first-of-ten-keys-as-owner"] = lambda: recovered_by(0, 10)
+STORED["recovery-with-the-tenth-key-as-owner"] = lambda: recovered_by(9, 10)
 
 
 @stored
@@ -117,7 +119,6 @@ def account_keys_that_differ_in_one_byte():
     s.key(keys[4])
     for key in keys:
         s.key(key)
-    s.key(changed(KEY_A, 8), expect=4)
     s.parameters(changed(KEY_A, 8), expect=0x80)
     s.status(keys[2])
     for key in keys:

@@ -12,12 +12,13 @@ def random_session(seed):
     dice = random.Random(seed)
     s = Session(dice.choice((-100, -60, -20, -1, 0, 20)), dice.randrange(4), dice.randrange(2), dice.randrange(1 << 30))
     tag = s.tag
-    pool = [bytes(16), KEY_A, KEY_B, KEY_C] + [dice.randbytes(16) for _ in range(4)]
     past = []  # earlier requests, to be sent again
 
     def chance(of):
         return dice.random() < of
 
+    crowd = chance(0.3)  # many account keys, which come, are used and go
+    pool = [bytes(16), KEY_A, KEY_B, KEY_C] + [dice.randbytes(16) for _ in range(11 if crowd else 4)]
     # A random source that repeats: so many values, one after the other or in any order.
     values = [dice.randbytes(8) for _ in range(dice.randrange(1, 21))] if chance(0.3) else []
     in_turn = chance(0.6)
@@ -43,7 +44,7 @@ def random_session(seed):
         owner = tag.owner or dice.choice(tag.keys or pool)
         proved = tag.waiting if tag.waiting is not None and chance(0.15) else identity
         proof = sha(proved, nonce)[:8]
-        any_key = dice.choice(tag.keys or pool)
+        any_key = dice.choice(pool if chance(0.2) else tag.keys or pool)
         data, key = b"", any_key
         if ident == 2:
             key = owner
@@ -134,7 +135,7 @@ def random_session(seed):
         s.key(dice.choice(pool) if chance(0.9) else dice.randbytes(dice.choice((0, 15, 17))), None)
 
     if chance(0.85):
-        for _ in range(dice.randrange(1, 4)):
+        for _ in range(dice.randrange(9, 14) if crowd else dice.randrange(1, 4)):
             s.key(dice.choice(pool), None)
         s.status(dice.choice(tag.keys))
         if chance(0.9):
@@ -142,7 +143,7 @@ def random_session(seed):
             if chance(0.9):
                 s.disconnect()
     acts = [(ask, 12), (time, 5), (s.button, 1.5), (s.disconnect, 1.5), (lambda: s.pairing(dice.randrange(2)), 0.7),
-            (lambda: s.battery(dice.choice((0, 0, 1, 2, 3, 3, 4, 256)), None), 1.2), (key, 1),
+            (lambda: s.battery(dice.choice((0, 0, 1, 2, 3, 3, 4, 256)), None), 1.2), (key, 6 if crowd else 1),
             (lambda: s.frame(None), 2.5), (nonce, 1)]
     for _ in range(dice.randrange(10, 45)):
         dice.choices([act for act, _ in acts], [weight for _, weight in acts])[0]()

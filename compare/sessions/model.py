@@ -44,7 +44,7 @@ class Model:
         self.clear()
 
     def clear(self):
-        self.keys, self.owner = [], None
+        self.keys, self.owner = [], None  # the most recently used first
         self.identity, self.waiting = None, None  # the key in force, and the one that waits for the disconnect
         self.ring = None  # mask, tenths left, nonce
         self.protection = None  # the skip flag
@@ -106,6 +106,7 @@ class Model:
         if ident in (0, 1):
             key = next((k for k in self.keys if right(k)), None)
             need(key is not None)
+            self.used(key)
             if ident == 0:
                 block = bytes([self.power & 0xFF]) + self.seconds.to_bytes(4, "big")
                 block += bytes([0, self.components, self.volume]) + bytes(8)
@@ -120,6 +121,7 @@ class Model:
                 need(len(tail) == 32)
             else:
                 need(len(tail) == 40 and tail[32:] == self.proof())
+            self.used(self.owner)
             self.waiting = decrypt(self.owner, tail[:32])
             return response(self.owner, self.nonce, 2)
         need(self.identity is not None)
@@ -186,13 +188,17 @@ class Model:
             self.ring[1] -= tenths
         return 0, b""
 
+    def used(self, key):
+        self.keys.remove(key)
+        self.keys.insert(0, key)
+
     def key(self, key):
         if len(key) != 16:
             raise Refused(4)
         if key not in self.keys:
-            if len(self.keys) == 5:
-                raise Refused(4)
-            self.keys.append(key)
+            if len(self.keys) == 10:
+                self.keys.remove([k for k in self.keys if k != self.owner][-1])
+            self.keys.insert(0, key)
 
     def frame(self):
         found = self.identifier_now()

@@ -58,23 +58,6 @@ def owner_is_the_key_of_0x01():
     return s
 
 
-@stored
-def five_keys_in_order():
-    """Each of five keys is found; a sixth is refused; a held one may come again."""
-    s = Session(power=20, components=2, volume=0)
-    keys = [bytes([n]) * 16 for n in range(5)]
-    for key in keys:
-        s.key(key)
-    s.key(KEY_A, expect=4)
-    for key in reversed(keys):
-        s.key(key)
-        s.parameters(key)
-    s.status(keys[4])
-    s.status(keys[0])
-    s.parameters(KEY_A, expect=0x80)
-    return s
-
-
 def power_session(power):
     s = Session(power=power, components=2, volume=1)
     s.key(KEY_A)

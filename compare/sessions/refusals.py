@@ -144,18 +144,21 @@ def refused_03_nonces():
 
 @stored
 def refused_04_keys():
-    """Sizes, a sixth key, and a key of zeros."""
+    """Sizes, with none and with ten keys held; a key of zeros is a key."""
     s = Session()
     for size in (0, 15, 17, 32, 125):
         s.key(b"\x07" * size, expect=4)
-    for n in range(5):
+    s.parameters(bytes(16), expect=0x80)
+    for n in range(10):
         s.key(bytes([n]) * 16)
         s.key(bytes([n]) * 16)
-    s.key(b"\x05" * 16, expect=4)
+    for size in (0, 15, 17, 125):
+        s.key(b"\x00" * size, expect=4)
     s.key(b"\x00" * 16)
-    s.key(b"\x04" * 16)
-    s.key(b"\x04" * 15, expect=4)
     s.status(bytes(16))
+    s.key(b"\x0a" * 16)
+    s.parameters(b"\x01" * 16, expect=0x80)
+    s.parameters(bytes(16))
     return s
 
 

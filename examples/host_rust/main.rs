@@ -2,13 +2,13 @@
 //! the record, and reads its own frame. It plays the phone too, which makes the requests with the library's own primitives.
 use std::fs;
 
-const RECORD_SIZE: usize = 323;
+const RECORD_SIZE: usize = 403;
 const ANSWER_ROOM: usize = 42;
-const IDENTITY_HELD_AT: usize = 239;
-const WAITING_HELD_AT: usize = 272;
-const SOUND_KIND_AT: usize = 305;
-const PROTECTION_AT: usize = 318;
-const BATTERY_AT: usize = 322;
+const IDENTITY_HELD_AT: usize = 319;
+const WAITING_HELD_AT: usize = 352;
+const SOUND_KIND_AT: usize = 385;
+const PROTECTION_AT: usize = 398;
+const BATTERY_AT: usize = 402;
 const CLOCK_SECONDS_AT: usize = 7;
 const PARTS_SIZE: usize = 23;
 

@@ -150,7 +150,7 @@ fn settings(s: &mut Samples) {
     s.right("seconds-at-the-end", fresh(), |u| u.seconds = u32::MAX);
 }
 
-/// "Up to 5 account keys of 16 bytes, no two equal"; "room for absent things not zero"
+/// Up to 10 account keys of 16 bytes, "no two equal"; "room for absent things not zero"
 fn account_keys(s: &mut Samples) {
     let most = SLOTS as u64;
     for count in [1 << 8, 1 << 32, 1 << 63] {

@@ -2,8 +2,8 @@
 
 use crate::tag::{Protection, Sound, Unit, NONCES, SLOTS};
 
-pub const VERSION: u8 = 4;
-pub const SIZE: usize = 323;
+pub const VERSION: u8 = 5;
+pub const SIZE: usize = 403;
 
 /// The fields in the record's order, each with its name in the header, in small letters.
 pub fn fields(u: &Unit) -> Vec<(&'static str, Vec<u8>)> {

@@ -16,7 +16,7 @@ pub const NO_ROOM: u8 = 6;
 /// Answer bytes that a host must lend.
 pub const ROOM: usize = 42;
 /// Keys that a unit can hold.
-pub const SLOTS: usize = 5;
+pub const SLOTS: usize = 10;
 /// Issued nonces that a unit remembers.
 pub const NONCES: usize = 16;
 /// Tenths of consent after a press.
@@ -44,6 +44,7 @@ pub struct Unit {
     pub selectable: u32,
     pub seconds: u32,
     pub tenth: u32,
+    /// The account keys, the most recently used first.
     pub key_count: u64,
     pub keys: [[u8; 16]; SLOTS],
     pub has_owner: bool,
@@ -229,6 +230,23 @@ impl Unit {
         }
     }
 
+    /// The key at this place was used: it comes first. The owner stays the same key.
+    fn use_key(&mut self, place: usize) {
+        let owner_key = self.owner_key();
+        let key = self.keys[place];
+        let others: Vec<[u8; 16]> = self.held_keys().iter().filter(|other| **other != key).copied().collect();
+        self.keys[0] = key;
+        self.keys[1..=others.len()].copy_from_slice(&others);
+        self.find_owner(owner_key);
+    }
+
+    /// The owner's place after the keys have moved.
+    fn find_owner(&mut self, owner_key: Option<[u8; 16]>) {
+        if let Some(owner_key) = owner_key {
+            self.owner = self.held_keys().iter().position(|key| *key == owner_key).unwrap() as u64;
+        }
+    }
+
     fn derived_key(&self, last: u8) -> [u8; 8] {
         let mut message = self.identity.to_vec();
         message.push(last);
@@ -406,6 +424,7 @@ pub fn write(unit: &mut Unit, data: &[u8], reach: u32, answer: &mut [u8]) -> Res
         0x00 => {
             let place = first_match(unit, &tag_is_for)?;
             let key = unit.keys[place];
+            unit.use_key(place);
             let mut block = [0u8; 16];
             block[0] = unit.power as i8 as u8;
             block[1..5].copy_from_slice(&unit.seconds.to_be_bytes());
@@ -421,11 +440,12 @@ pub fn write(unit: &mut Unit, data: &[u8], reach: u32, answer: &mut [u8]) -> Res
                 unit.has_owner = true;
                 unit.owner = place as u64;
             }
+            unit.use_key(place);
             let mut bits = 0x00;
             if unit.has_identity {
                 bits |= 0x01;
             }
-            if unit.owner == place as u64 {
+            if unit.owner_key() == Some(key) {
                 bits |= 0x02;
             }
             let mut answer_data = vec![bits];
@@ -446,6 +466,7 @@ pub fn write(unit: &mut Unit, data: &[u8], reach: u32, answer: &mut [u8]) -> Res
             } else if unit.has_identity {
                 return Err(NOT_AUTHENTICATED);
             }
+            unit.use_key(unit.owner as usize);
             unit.has_waiting = true;
             unit.waiting = decrypt_two(&owner_key, additional[..32].try_into().unwrap());
             make_answer(&owner_key, &nonce, id, &[])
@@ -577,7 +598,7 @@ pub fn write(unit: &mut Unit, data: &[u8], reach: u32, answer: &mut [u8]) -> Res
     Ok(put(answer, &bytes))
 }
 
-/// The place of the first held key, in order of arrival, whose tag matches.
+/// The place of the first held key, the most recently used first, whose tag matches.
 fn first_match(unit: &Unit, tag_is_for: &dyn Fn(&[u8]) -> bool) -> Result<usize, u8> {
     for (place, key) in unit.held_keys().iter().enumerate() {
         if tag_is_for(key) {
@@ -765,11 +786,17 @@ pub fn account_key(unit: &mut Unit, key: &[u8]) -> Result<(), u8> {
     if unit.held_keys().contains(&key) {
         return Ok(());
     }
-    if unit.key_count == SLOTS as u64 {
-        return Err(BAD_KEY);
+    // Arrival counts as use. Where there is no room, the least recently used key goes, but never the owner.
+    let owner_key = unit.owner_key();
+    let mut keys = unit.held_keys().to_vec();
+    if keys.len() == SLOTS {
+        let last = keys.iter().rposition(|held| Some(*held) != owner_key).unwrap();
+        keys.remove(last);
     }
-    unit.keys[unit.key_count as usize] = key;
-    unit.key_count += 1;
+    keys.insert(0, key);
+    unit.key_count = keys.len() as u64;
+    unit.keys[..keys.len()].copy_from_slice(&keys);
+    unit.find_owner(owner_key);
     Ok(())
 }
 

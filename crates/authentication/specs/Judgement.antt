@@ -52,7 +52,7 @@ proves u proof = sameBytes (keyProof (keyInForce u) (lastNonce u)) proof
 abbrev pub answered : List ℕ → TagUnit → Request → List ℕ → List ℕ
 answered key u q «data» = signed key (lastNonce u) (q .id) «data»
 
--- "any account key; the first held key whose tag matches, in order of arrival, is used"
+-- "any account key; the first held key whose tag matches .. is used"; "The order of trial becomes most recently used first"
 unfoldable pub usedKey : TagUnit → Request → Option (List ℕ)
 usedKey u q = firstThat (λ k. tagged k (lastNonce u) q) (heldKeys (u .accounts))
 

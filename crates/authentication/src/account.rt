@@ -30,7 +30,7 @@ pub fn tagged(key: &[u8], nonce: [u8; NONCE_SIZE], h: Head, additional: &[u8]) -
     octets::same(&made, &tag)
 }
 
-// The first of the keys below the count, in order of arrival, whose tag matches.
+// The first of the keys below the count, the most recently used first, whose tag matches.
 fn first_of(keys: &[u8], count: usize, nonce: [u8; NONCE_SIZE], h: Head, additional: &[u8]) -> Found
     requires { ⌜ (count * accountKeySize ≤ length (now keys)) × (length (now additional) ≤ mostLength) ⌝ }
     ensures { λ r. ⌜ Finds (firstThat (λ k. isTagged k nonce (request h (now (additional .entry)))) (rows accountKeySize count (now (keys .entry)))) (rows accountKeySize count (now (keys .entry))) r ⌝ }
@@ -49,7 +49,7 @@ fn first_of(keys: &[u8], count: usize, nonce: [u8; NONCE_SIZE], h: Head, additio
     found
 }
 
-// The place of the account key that a request uses: the first held key, in order of arrival, whose tag matches.
+// The place of the account key that a request uses: the first held key, the most recently used first, whose tag matches.
 pub fn used_key(u: TagUnit, h: Head, additional: &[u8]) -> Found
     requires { ⌜ (wellFormed u ≡ true) × (length (now additional) ≤ mostLength) ⌝ }
     ensures { λ r. ⌜ Finds (usedKey u (request h (now (additional .entry)))) (heldKeys (u .accounts)) r ⌝ }

@@ -2,7 +2,7 @@
 -- every check by what the unit permits: the tag is the key's own, the proof is the held key's own, the first key that makes the tag is the
 -- one meant. What the definitions then give is, opened, what the literal terms say.
 use Prim.Native.Nat.{ℕ, zero, suc, _+_, _/_, _%_, _≤_, _<_}
-use mathlib.Core.Path.{_≡_, refl, sym, ap, _∙_}
+use mathlib.Core.Path.{_≡_, refl, sym, ap, subst, _∙_}
 use mathlib.Core.Bool.{Bool, true, false, cond, _&&_, _||_}
 use mathlib.Core.List.{List, [], _∷_, _++_}
 use mathlib.Core.Logic.{_⊎_, inl, inr}
@@ -21,14 +21,16 @@ use Rattle.wire.specs.Signing.{requestTag, keyProof, derivedKey, recoveryKey, r
 use Rattle.wire.specs.Shape.{Request, sizeLegal, oneOf, legalSizes}
 use Rattle.key_blocks.specs.KeyBlocks.{decryptedKey, encryptedKey}
 use Rattle.unit.specs.declared.TagUnit.{TagUnit}
+use Rattle.unit.specs.declared.Owner.{Owner}
 use Rattle.unit.specs.declared.Sound.{Sound}
 use Rattle.unit.specs.declared.Protection.{Protection}
 use Rattle.unit.specs.WellFormed.{wellFormed, heldKeys, ownerKey}
 use Rattle.unit.specs.Change.{spent, silenced, withNonces, withAccounts, withSound, withProtection}
 use Rattle.unit.specs.Outcome.{giving}
-use Rattle.unit.proofs.Lines.{lines, held-count}
+use Rattle.unit.proofs.Lines.{lines, held-count, owner-held}
 use Rattle.authentication.specs.Judgement.{accepts, tagged, usedKey, signedByOwner}
-use Rattle.provisioning.specs.Provisioning.{ownedBy, awaiting, cleared, readParameters, readState, setKey, mayReplace, clearKey, recoverKey}
+use Rattle.account_keys.specs.Order.{keyUsed}
+use Rattle.provisioning.specs.Provisioning.{afterUse, ownedBy, awaiting, cleared, readParameters, readState, setKey, mayReplace, clearKey, recoverKey}
 use Rattle.ringing.specs.declared.sounding.Decision.{Decision}
 use Rattle.ringing.specs.Ringing.{skips, heldVolume, askedTimeout, ringDecision, ring, rung, readSound}
 use Rattle.ringing.specs.Protecting.{protect, unprotect}
@@ -39,10 +41,10 @@ use Rattle.tag.specs.Own.{issuing}
 use Rattle.tag.specs.Calls.{read, own, guarded, call, Act, calls, act}
 use Rattle.demands.specs.History.{step, sends}
 use Rattle.demands.specs.Spelled.{keyAtPlace, nonceAtPlace, OwnedWith, NonceSpent, OnlySpends}
-use Rattle.demands.specs.Accepted.{Serves, Open, sent, answer, First, ownerBit, standing, OwnerKnown, Awaits, Cleared, startNotice, stopNotice, failNotice, RingLegal, ringBytes, RingTag, signed as signedTag, skipped, NoneReached, Reached, Stoppable, silent, partReached, Rings, Stopped, Protects, Issued, Accepted}
+use Rattle.demands.specs.Accepted.{Serves, Open, sent, answer, First, ownerBit, standing, broughtFirst, ownerOnceFirst, KeyUsed, OwnerKnown, Awaits, Cleared, startNotice, stopNotice, failNotice, RingLegal, ringBytes, RingTag, signed as signedTag, skipped, NoneReached, Reached, Stoppable, silent, partReached, Rings, Stopped, Protects, Issued, Accepted}
 use Rattle.demands.proofs.RecordLines.{key-at, nonce-at, among-found}
 use Rattle.demands.proofs.EphemeralIdentifier.{standing-is}
-use Rattle.demands.proofs.Spelling.{parameters-are, timeout-is, meant, ring-legal, stop-legal, owner-at, claimed-owner, claimed-count, claimed-keys, owner-bit, sound-state}
+use Rattle.demands.proofs.Spelling.{parameters-are, timeout-is, meant, ring-legal, stop-legal, owner-at, claimed-owner, claimed-count, claimed-keys, first-keys, used-owner, owner-bit, sound-state}
 use Rattle.demands.proofs.MaskBits.{reached-is, none-reached, part-reached}
 use Rattle.demands.proofs.Judging.{opened, length-requestTag, length-keyProof, requestOf, judged-as, own-tag}
 
@@ -80,7 +82,7 @@ issued-so nonce u =
     }
 
 -- The first key of a list that passes a test, where every one before it fails
-first-found : (test : List ℕ → Bool) (keys : List (List ℕ)) (p : ℕ) → p < length keys
+pub first-found : (test : List ℕ → Bool) (keys : List (List ℕ)) (p : ℕ) → p < length keys
     → ((j : ℕ) → j < p → test (getD keys j []) ≡ false) → test (getD keys p []) ≡ true → firstThat test keys ≡ some (getD keys p [])
 unfolding firstThat
 first-found test [] p short before here = absurd (omega arith)
@@ -129,8 +131,18 @@ spends u v e = record { count = rw e; newest = rw e; earlier = rw e; dead = rw e
 pub only-spends : (u : TagUnit) → OnlySpends u (spent u)
 only-spends u = record { nonceSpent = spends u _ refl; rest = (refl, refl, tt, refl, refl, refl, refl, refl, refl, refl, refl, refl) }
 
+key-used : (u : TagUnit) → wellFormed u ≡ true → (p : ℕ) → p < u .accounts .count → KeyUsed p u (afterUse (keyAtPlace u p) (spent u))
+key-used u right p held =
+    record {
+      nonceSpent = spends u _ refl;
+      count = refl;
+      keys = first-keys u (lines u right) p held (u .accounts) refl refl;
+      owner = used-owner u (lines u right) p held;
+      rest = (refl, refl, tt, tt, refl, refl, refl, refl, refl, refl, refl, refl);
+    }
+
 owner-known : (u : TagUnit) → wellFormed u ≡ true → (p : ℕ) → p < u .accounts .count
-    → OwnerKnown p u (withAccounts (ownedBy (keyAtPlace u p) (u .accounts)) (spent u))
+    → OwnerKnown p u (afterUse (keyAtPlace u p) (withAccounts (ownedBy (keyAtPlace u p) (u .accounts)) (spent u)))
 owner-known u right p held =
     record {
       nonceSpent = spends u _ refl;
@@ -141,10 +153,28 @@ owner-known u right p held =
     }
 
 -- the first 32 bytes are the two blocks, whatever follows them
-awaits : (u : TagUnit) (key C : List ℕ) → Awaits key C u (awaiting (decryptedKey key C) (spent u))
+awaits : (u : TagUnit) (key C : List ℕ) → wellFormed u ≡ true → OwnedWith u key → Awaits key C u (awaiting (decryptedKey key C) (afterUse key (spent u)))
 unfolding decryptedKey
-awaits u key C =
-    record { nonceSpent = spends u _ refl; waitingIs = refl; rest = (refl, refl, tt, refl, refl, tt, refl, refl, refl, refl, refl, refl) }
+awaits u key C right (p, o, k) =
+    let l = lines u right in
+    let held : p < u .accounts .count = owner-held l p o in
+    let first : (q : ℕ) → u .accounts .owner ≡ Owner.Place q → q ≡ p = λ q e. ap placeIn (sym e ∙ o) in
+    record {
+      nonceSpent = spends u _ refl;
+      waitingIs = refl;
+      count = refl;
+      keys = λ q e.
+          rw (first q e) (subst (λ (x : List ℕ). keyUsed x (u .accounts) .keys ≡ broughtFirst u p) k (first-keys u l p held (u .accounts) refl refl));
+      ownerFirst =
+          subst (λ (x : List ℕ). keyUsed x (u .accounts) .owner ≡ ownerOnceFirst p (u .accounts .owner)) k (used-owner u l p held)
+          ∙ ap (ownerOnceFirst p) o
+          ∙ ap (λ (b : Bool). Owner.Place (cond b 0 (cond (ltb p p) (p + 1) p))) (eq-eqb p p refl);
+      rest = (refl, refl, tt, tt, refl, tt, refl, refl, refl, refl, refl, refl);
+    }
+  where
+    placeIn : Owner → ℕ
+    placeIn Owner.Nobody = 0
+    placeIn (Owner.Place q) = q
 
 two-blocks : (key C more : List ℕ) → length C ≡ 32 → decryptedKey key (C ++ more) ≡ decryptedKey key C
 unfolding decryptedKey
@@ -153,8 +183,9 @@ two-blocks key C more n =
     let second : 16 ≤ length (drop 16 C) = simp length-drop (omega arith) in
     rw (take-append-le, drop-append-le, take-append-le)
 
-awaits-first : (u : TagUnit) (key C more : List ℕ) → length C ≡ 32 → Awaits key C u (awaiting (decryptedKey key (C ++ more)) (spent u))
-awaits-first u key C more n = rw (two-blocks key C more n) (awaits u key C)
+awaits-first : (u : TagUnit) (key C more : List ℕ) → wellFormed u ≡ true → OwnedWith u key → length C ≡ 32
+    → Awaits key C u (awaiting (decryptedKey key (C ++ more)) (afterUse key (spent u)))
+awaits-first u key C more right owner n = rw (two-blocks key C more n) (awaits u key C right owner)
 
 clears : (u : TagUnit) → Cleared u (cleared (spent u))
 unfolding cleared
@@ -268,7 +299,7 @@ failed-gives u volume left right = rw (sound-state u (lines u right))
 
 -- 0x01 and a first 0x02, for whatever is so of the unit that they leave
 pub serves-state : (u : TagUnit) (reach room p : ℕ) {Left : TagUnit → Type 0} → Open u reach room → First u 0x01 p
-    → Left (withAccounts (ownedBy (keyAtPlace u p) (u .accounts)) (spent u))
+    → Left (afterUse (keyAtPlace u p) (withAccounts (ownedBy (keyAtPlace u p) (u .accounts)) (spent u)))
     → Serves (sends (sent u 0x01 (keyAtPlace u p) []) reach room) u
     (answer u 0x01 (keyAtPlace u p) ((cond (u .identity .held) 0x01 0x00 + ownerBit (u .accounts .owner) p) ∷ standing u))
     Left
@@ -280,7 +311,7 @@ serves-state u reach room p ready first left =
     left
 
 pub serves-key : (u : TagUnit) (reach room : ℕ) (key C : List ℕ) {Left : TagUnit → Type 0} → Open u reach room → OwnedWith u key → u .identity .held ≡ false
-    → length C ≡ 32 → Left (awaiting (decryptedKey key C) (spent u))
+    → length C ≡ 32 → Left (awaiting (decryptedKey key C) (afterUse key (spent u)))
     → Serves (sends (sent u 0x02 key C) reach room) u (answer u 0x02 key []) Left
 unfolding byId sizeLegal oneOf legalSizes setKey mayReplace signed answerTag
 serves-key u reach room key C ready owner none n left =
@@ -296,15 +327,15 @@ accepted =
           serves (reads u room lent right fits long (not-held u lent other)) (issued-so lent u);
       parametersRead = λ u reach room p ready first.
           signed-as u reach room 0x00 8 (keyAtPlace u p) [] refl ready refl refl
-          (rw (first-tagged u 0x00 p first, parameters-are u)) (only-spends u);
+          (rw (first-tagged u 0x00 p first, parameters-are u)) (key-used u (ready .formed) p (first .0));
       stateRead = λ u reach room p ready first. serves-state u reach room p ready first (owner-known u (ready .formed) p (first .0));
-      keySet = λ u reach room key C ready owner none n. serves-key u reach room key C ready owner none n (awaits u key C);
+      keySet = λ u reach room key C ready owner none n. serves-key u reach room key C ready owner none n (awaits u key C (ready .formed) owner);
       keyReplaced = λ u reach room key C ready owner held n.
           let proof = keyProof (u .identity .bytes) (u .nonces .newest) in
           let sized = proven-sized C proof n (length-keyProof (u .identity .bytes) (u .nonces .newest)) in
           signed-as u reach room 0x02 48 key (C ++ proof) sized ready refl refl
           (rw (owner-tagged u 0x02 48 key (C ++ proof) (owner-at u key (ready .formed) owner), held, drop-at C proof 32 n, same-refl proof))
-          (awaits-first u key C proof n);
+          (awaits-first u key C proof (ready .formed) owner n);
       keyCleared = λ u reach room key ready owner held.
           let proof = keyProof (u .identity .bytes) (u .nonces .newest) in
           let sized = ap (λ (n : ℕ). 8 + n) (length-keyProof (u .identity .bytes) (u .nonces .newest)) in

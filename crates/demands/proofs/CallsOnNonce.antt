@@ -25,9 +25,9 @@ use Rattle.demands.specs.Spelled.{NoBitOutside}
 use Rattle.demands.specs.History.{step}
 use Rattle.demands.specs.Nonces.{Succeeds, PassesGuards, passes, Issues, issues}
 use Rattle.demands.proofs.Guards.{roomFor, ownOf, met, Met, barred, passed, not-both}
-use Rattle.demands.proofs.WritesOnKeys.{Did, set, clear, recovered, other, Ended, unreached, turned, served, ends-written}
+use Rattle.demands.proofs.WritesOnKeys.{Did, set, clear, recovered, used, other, Ended, unreached, turned, served, ends-written}
 use Rattle.demands.proofs.MaskBits.{inside-bits, bits-inside}
-use Rattle.demands.proofs.OtherCalls.{kind, Sorted, aRead, aWrite, aKey, aDisconnect, aside, sorted, Keeping, same, more, keeps, Disconnecting, nothingIn, keyIn, disconnects}
+use Rattle.demands.proofs.OtherCalls.{kind, Sorted, aRead, aWrite, aKey, aDisconnect, aside, sorted, Keeping, unfit, again, more, keeps, Disconnecting, nothingIn, keyIn, disconnects}
 
 pub data Noncing : Act → TagUnit → Type 0 where
   issue : {nonce : List ℕ} {room : ℕ} {u : TagUnit} → Succeeds (calls (read nonce) room) u → nonceFits (u .nonces) nonce ≡ true
@@ -59,6 +59,7 @@ unfolding cleared
 did-nonce (set key e o) = refl
 did-nonce (clear e) = refl
 did-nonce (recovered key e o) = refl
+did-nonce (used k a) = refl
 did-nonce (other k a) = a .nonce
 
 written-spends : {u : TagUnit} {w : Written} {o : Outcome} → inside (w .reach) (u .settings .components) ≡ true → Ended u w o → o .unit .nonces ≡ spentNonces (u .nonces)
@@ -74,7 +75,8 @@ passes-within : {w : Written} {room : ℕ} {u : TagUnit} → PassesGuards (calls
 passes-within (passes fits formed within) = within
 
 kept-nonce : {key : List ℕ} {u : TagUnit} {o : Outcome} → Keeping key u o → o .unit .nonces ≡ u .nonces
-kept-nonce same = refl
+kept-nonce unfit = refl
+kept-nonce (again a) = refl
 kept-nonce (more n few) = refl
 
 disconnected-nonce : {u v : TagUnit} → Disconnecting u v → v .nonces ≡ u .nonces

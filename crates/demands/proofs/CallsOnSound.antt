@@ -65,8 +65,7 @@ module _ (u : TagUnit) where
   key-calm key =
       tested (Calm u) (not (eqb (length key) accountKeySize)) (λ e. calm-refusal 4 u)
       (λ e.
-      tested (Calm u) (among key (heldKeys (u .accounts))) (λ a. record { leaves = search; quiet = refl })
-      (λ a. tested (Calm u) (ltb (u .accounts .count) mostKeys) (λ few. record { leaves = search; quiet = refl }) (λ few. calm-refusal 4 u)))
+      tested (Calm u) (among key (heldKeys (u .accounts))) (λ a. record { leaves = search; quiet = refl }) (λ a. record { leaves = search; quiet = refl }))
 
   frame-calm : Calm u (showing u)
   unfolding showing rendered

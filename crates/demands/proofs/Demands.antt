@@ -17,6 +17,7 @@ use Rattle.demands.proofs.SleepUntil.{sleep-until}
 use Rattle.demands.proofs.RefusalOrder.{refusal-order}
 use Rattle.demands.proofs.RecordLines.{well-formed-exactly}
 use Rattle.demands.proofs.Refused.{refused}
+use Rattle.demands.proofs.KeysByUse.{keys-by-use}
 use Rattle.demands.proofs.Events.{events}
 use Rattle.demands.proofs.FrameRead.{frame-read}
 
@@ -33,6 +34,7 @@ demands =
       framesRead = frame-read;
       nonces = nonces;
       nonceRepeats = nonce-repeats;
+      keysByUse = keys-by-use;
       recovered = recovery;
       recoveredOnce = example;
       waitingKey = waiting-key;

@@ -5,10 +5,10 @@ use mathlib.Core.Path.{_≡_, refl, sym, ap, _∙_}
 use mathlib.Core.Bool.{Bool, true, false, not}
 use mathlib.Core.List.{List, [], _∷_, _++_, append-nil}
 use native.Mathlib.Omega.{arith}
-use lib.Dec.{eqb}
+use lib.Dec.{eqb, ltb}
 use lib.IntN.{ℤ, pos, negsuc}
 use lib.ListN.{length, getD, replicate}
-use borrow.Author.Tests.{le-leb, lt-leb, lt-ltb, eq-eqb, ne-eqb, eqb-true, eqb-false}
+use borrow.Author.Tests.{le-leb, lt-leb, lt-ltb, le-ltb, eq-eqb, ne-eqb, eqb-true, eqb-false}
 use Rattle.laws.specs.Answer.{gives}
 use Rattle.laws.specs.Bytes.{bigEndian}
 use Rattle.laws.proofs.Flags.{and-fails-right, both}
@@ -18,14 +18,16 @@ use Rattle.tables.proofs.Rows.{among-place}
 use Rattle.wire.specs.Signing.{derivedKey, answerTag, signed, ringNotice}
 use Rattle.unit.specs.declared.TagUnit.{TagUnit}
 use Rattle.unit.specs.declared.Clock.{Clock}
+use Rattle.unit.specs.declared.Owner.{Owner}
 use Rattle.unit.specs.declared.Sound.{Sound}
 use Rattle.unit.specs.WellFormed.{powerLegal, settingsLegal, wellFormed, heldKeys}
-use Rattle.unit.specs.Change.{fresh, withClock, withPairing, withAccounts, withNewKey, withSound, withConsent}
+use Rattle.unit.specs.Change.{fresh, withClock, withPairing, withAccounts, withSound, withConsent}
 use Rattle.unit.specs.Outcome.{Outcome, giving, formed}
 use Rattle.unit.proofs.Lines.{lines, held-count}
 use Rattle.standing.specs.Standing.{stands, currentIdentifier, currentR}
 use Rattle.frame.specs.Frame.{rendered, flagsFor}
 use Rattle.time.specs.Time.{clockOn, endsNext, soundOn, ringOn, oneTenth, timeoutNotice, afterTenth, tenths}
+use Rattle.account_keys.specs.Order.{leastUsed, placeFor, keyAdded}
 use Rattle.advertising.specs.Showing.{protected, showing}
 use Rattle.tag.specs.Own.{pressed, charged, keeping, disconnected}
 use Rattle.tag.specs.Calls.{newUnit, button, accountKey, disconnect, frame, own, guarded, call, elapsed, calls, waits, act}
@@ -33,10 +35,11 @@ use Rattle.demands.specs.History.{step}
 use Rattle.demands.specs.Spelled.{keyAtPlace}
 use Rattle.demands.specs.EphemeralIdentifier.{rOf, identifierOf, cutR}
 use Rattle.demands.specs.Accepted.{Serves, stopNotice}
-use Rattle.demands.specs.Events.{PowerWithin, Fresh, Hushed, Consents, Keeps, BroughtIn, Same, Shows, masked, TenthPasses, Ticks, Events}
+use Rattle.demands.specs.Events.{PowerWithin, Fresh, Hushed, Consents, Arrives, Keeps, Replaces, BroughtIn, Same, Shows, masked, TenthPasses, Ticks, Events}
 use Rattle.demands.proofs.Judging.{opened}
 use Rattle.demands.proofs.RecordLines.{key-at}
 use Rattle.demands.proofs.EphemeralIdentifier.{identifier-is, cut-is, stands-is}
+use Rattle.demands.proofs.Spelling.{owner-moves}
 use Rattle.demands.proofs.Accepted.{serves}
 
 -- A call without answer bytes on a well-formed unit does its own
@@ -103,23 +106,45 @@ held-already u room p key right long held e =
     let is : among key (heldKeys (u .accounts)) ≡ true = rw (key-at u p held ∙ e) at there in
     serves (settles u (keeping key u) right ∙ rw (eq-eqb (length key) 16 long, is)) refl
 
-added : (u : TagUnit) (room : ℕ) (key : List ℕ) → wellFormed u ≡ true → length key ≡ 16 → u .accounts .count < 5
-    → ((p : ℕ) → p < u .accounts .count → keyAtPlace u p ≡ key → ⊥)
-    → Serves (calls (accountKey key) room) u [] (Keeps key u)
-unfolding act call guarded own keeping
-added u room key right long few other =
-    let new = not-among key (heldKeys (u .accounts))
-    (λ i h. let low : i < u .accounts .count = omega (arith, held-count (u .accounts)) in
-    λ e. other i low (sym (key-at u i low) ∙ e)) in
-    let from : u .accounts .count * 16 ≡ 16 * u .accounts .count = omega arith in
-    serves {v = withAccounts (withNewKey key (u .accounts)) u}
-    (settles u (keeping key u) right ∙ rw (eq-eqb (length key) 16 long, new, lt-ltb (u .accounts .count) 5 few))
-    (record {
-      count = refl;
-      owner = refl;
-      keys = rw (from, long);
-      rest = (refl, refl, refl, tt, refl, refl, refl, refl, refl, refl, refl, refl);
-    })
+-- A new key: first, in the room of a place
+module _ (u : TagUnit) (room : ℕ) (key : List ℕ) (right : wellFormed u ≡ true) (long : length key ≡ 16)
+    (other : (p : ℕ) → p < u .accounts .count → keyAtPlace u p ≡ key → ⊥) where
+  adds-it : step (calls (accountKey key) room) u ≡ giving [] (withAccounts (keyAdded key (u .accounts)) u)
+  unfolding act call guarded own keeping
+  adds-it =
+      let new = not-among key (heldKeys (u .accounts))
+      (λ i h. let low : i < u .accounts .count = omega (arith, held-count (u .accounts)) in
+      λ e. other i low (sym (key-at u i low) ∙ e)) in
+      settles u (keeping key u) right ∙ rw (eq-eqb (length key) 16 long, new)
+
+  arrives : (p : ℕ) → placeFor (u .accounts) ≡ p → Arrives key p u (withAccounts (keyAdded key (u .accounts)) u)
+  arrives p e =
+      let at : p * 16 ≡ 16 * p = omega arith in
+      let past : suc p * 16 ≡ 16 * p + 16 = omega arith in
+      record {
+        owner = rw e (owner-moves p (u .accounts .owner));
+        keys = rw (e, at, past);
+        rest = (refl, refl, refl, tt, refl, refl, refl, refl, refl, refl, refl, refl);
+      }
+
+  added : u .accounts .count < 10 → Serves (calls (accountKey key) room) u [] (Keeps key u)
+  added few =
+      let test = lt-ltb (u .accounts .count) 10 few in
+      serves adds-it (record { count = rw test; first = arrives (u .accounts .count) (rw test) })
+
+  replaced : u .accounts .count ≡ 10 → Serves (calls (accountKey key) room) u [] (Replaces key u)
+  replaced full =
+      let test : ltb (u .accounts .count) 10 ≡ false = le-ltb (u .accounts .count) 10 (omega arith) in
+      serves adds-it
+      (record {
+        count = rw test;
+        last = λ not-owner. arrives 9 (rw test (last-place (u .accounts .owner) not-owner));
+        notTheOwner = λ owner. arrives 8 (rw (test, owner));
+      })
+    where
+      last-place : (o : Owner) → (o ≡ Owner.Place 9 → ⊥) → leastUsed o ≡ 9
+      last-place Owner.Nobody h = refl
+      last-place (Owner.Place p) h = rw (ne-eqb p 9 (λ e. h (ap Owner.Place e)))
 
 -- The disconnect, with a key that waits and without
 brings-it-in : (u : TagUnit) (room : ℕ) → wellFormed u ≡ true → u .waiting .held ≡ true → Serves (calls disconnect room) u [] (BroughtIn u)
@@ -231,7 +256,8 @@ events =
           serves (settles u (charged level u) right ∙ rw (le-leb level 3 low))
           (record { levelIs = refl; rest = (refl, refl, refl, refl, refl, refl, refl, refl, refl, refl, refl, tt) });
       keyHeld = held-already;
-      keyAdded = added;
+      keyAdded = λ u room key right long few other. added u room key right long other few;
+      keyReplaced = λ u room key right long full other. replaced u room key right long (λ p h. other p (omega arith)) full;
       keyBroughtIn = brings-it-in;
       nothingBroughtIn = brings-nothing-in;
       frameBare = λ u room s none off. shows-it u room 0 false s none (rw off) (bare-bytes (cutR u) (identifierOf u));

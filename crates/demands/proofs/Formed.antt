@@ -3,7 +3,7 @@
 use Prim.Native.Nat.{ℕ}
 use mathlib.Core.Path.{_≡_, sym, subst}
 use mathlib.Core.Bool.{true, not}
-use mathlib.Core.List.{List}
+use mathlib.Core.List.{List, [], _∷_}
 use native.Mathlib.Omega.{arith}
 use lib.Dec.{eqb, leb, ltb}
 use lib.ListN.{length}
@@ -20,10 +20,12 @@ use Rattle.standing.specs.Standing.{stands}
 use Rattle.unit.proofs.Lines.{lines, waiting-owned}
 use Rattle.unit.proofs.Kept.{fresh-formed, issued-kept, consent-kept, silenced-kept, pairing-kept, battery-kept, accounts-kept, identity-kept, unawaited-kept}
 use Rattle.nonces.specs.Nonces.{nonceFits}
+use Rattle.account_keys.specs.Order.{placeFor, keyAdded}
+use Rattle.account_keys.proofs.Order.{added-lines, added-owner, followed-owned}
 use Rattle.advertising.specs.Showing.{showing}
 use Rattle.tag.specs.Own.{issuing, pressed, charged, keeping, broughtIn, disconnected}
 use Rattle.tag.specs.Calls.{read, write, button, pairing, battery, accountKey, disconnect, frame, own, Act, calls, waits}
-use Rattle.demands.specs.History.{step}
+use Rattle.demands.specs.History.{step, after}
 use Rattle.demands.specs.Formed.{Formed}
 use Rattle.demands.proofs.Choices.{tested}
 use Rattle.demands.proofs.Guards.{roomFor, ownOf, act-guarded}
@@ -68,9 +70,11 @@ module _ (u : TagUnit) (w : wellFormed u ≡ true) where
       (λ e.
       tested Keeps (among key (heldKeys (u .accounts))) (λ held. keeps w)
       (λ new.
-      tested Keeps (ltb (u .accounts .count) mostKeys)
-      (λ few. keeps (accounts-kept u w key (eqb-true (length key) accountKeySize (not-false _ e)) (ltb-true (u .accounts .count) mostKeys few) new))
-      (λ full. refusal)))
+      let l = lines u w in
+      let sized = eqb-true (length key) accountKeySize (not-false _ e) in
+      keeps
+      (accounts-kept u w (keyAdded key (u .accounts)) (added-lines (u .accounts) (l .accounts) key sized new (l .owner))
+      (added-owner (u .accounts) (l .accounts) key sized new (l .owner)) (followed-owned (placeFor (u .accounts)) (u .accounts .owner)))))
 
   -- the waiting key has an owner, as the key in force needs
   brought-in : u .waiting .held ≡ true → wellFormed (broughtIn u) ≡ true
@@ -105,3 +109,8 @@ module _ (u : TagUnit) (w : wellFormed u ≡ true) where
 
 pub formed : Formed
 formed = record { kept = λ a u w. kept-unit (step-keeps u w a); freshly = fresh-formed; refused = no-unit }
+
+pub formed-along : (h : List Act) (u : TagUnit) → wellFormed u ≡ true → wellFormed (after h u) ≡ true
+unfolding after
+formed-along [] u w = w
+formed-along (a ∷ h) u w = formed-along h (step a u .unit) (formed .kept a u w)

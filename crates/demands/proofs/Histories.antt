@@ -9,3 +9,7 @@ pub after-append : (g h : List Act) (u : TagUnit) → after (g ++ h) u ≡ after
 unfolding after
 after-append [] h u = refl
 after-append (c ∷ g) h u = after-append g h (step c u .unit)
+
+pub one-more : (h : List Act) (a : Act) (u : TagUnit) → after (h ++ (a ∷ [])) u ≡ step a (after h u) .unit
+unfolding after
+one-more h a u = after-append h (a ∷ []) u

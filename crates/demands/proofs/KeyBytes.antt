@@ -9,7 +9,7 @@ use native.Mathlib.Omega.{arith}
 use lib.ListN.{length, getD, take, drop, replicate}
 use borrow.Author.Tests.{ltb-true}
 use Rattle.sizes.specs.Sizes.{accountKeySize}
-use Rattle.octets.specs.Put.{pasted}
+use Rattle.tables.specs.Rows.{placeOf}
 use Rattle.tables.proofs.Rows.{row-at}
 use Rattle.unit.specs.declared.TagUnit.{TagUnit}
 use Rattle.unit.specs.declared.Settings.{Settings}
@@ -19,6 +19,7 @@ use Rattle.unit.specs.WellFormed.{wellFormed, heldKeys, rowOf, ownerKey, ownerL
 use Rattle.unit.specs.Change.{fresh}
 use Rattle.unit.specs.Outcome.{Outcome}
 use Rattle.unit.proofs.Lines.{lines, AccountsLines, key-length, held-count}
+use Rattle.account_keys.specs.Order.{placeFor}
 use Rattle.provisioning.specs.Provisioning.{cleared}
 use Rattle.nonces.specs.Nonces.{nonceFits}
 use Rattle.tag.specs.Own.{issuing}
@@ -26,8 +27,9 @@ use Rattle.tag.specs.Calls.{Written, own, Act}
 use Rattle.demands.specs.History.{step, after, Bytes, OfBytes, AllOfBytes}
 use Rattle.demands.proofs.Guards.{ownOf, met, Met, barred, passed}
 use Rattle.demands.proofs.OfBytes.{bytes-take, bytes-drop, bytes-cons, bytes-append}
-use Rattle.demands.proofs.WritesOnKeys.{choose, set, clear, recovered, other, Ended, unreached, turned, served, ends-written}
-use Rattle.demands.proofs.OtherCalls.{Sorted, aRead, aWrite, aKey, aDisconnect, aside, sorted, Keeping, same, more, keeps, Disconnecting, nothingIn, keyIn, disconnects}
+use Rattle.demands.proofs.WritesOnKeys.{uses-bytes, choose, set, clear, recovered, used, other, Ended, unreached, turned, served, ends-written}
+use Rattle.demands.proofs.KeyUses.{first-bytes, owner-bytes}
+use Rattle.demands.proofs.OtherCalls.{Sorted, aRead, aWrite, aKey, aDisconnect, aside, sorted, Keeping, unfit, again, more, keeps, Disconnecting, nothingIn, keyIn, disconnects}
 
 -- a key of sixteen bytes
 pub record Sixteen (key : List ℕ) : Type 0 where
@@ -42,13 +44,10 @@ zeros : (n : ℕ) → Bytes (replicate n 0)
 zeros zero i = omega arith
 zeros (suc n) i = bytes-cons 0 (replicate n 0) (omega arith) (zeros n) i
 
-pasted-bytes : (before : List ℕ) (at : ℕ) (bytes : List ℕ) → Bytes before → Bytes bytes → Bytes (pasted before at bytes)
-pasted-bytes before at bytes p q =
-    bytes-append (take at before) _ (bytes-take at before p) (bytes-append bytes _ q (bytes-drop (at + length bytes) before p))
-
 keeping-filled : {key : List ℕ} {u : TagUnit} {o : Outcome} → Keeping key u o → Bytes key → Filled u → Filled (o .unit)
-keeping-filled same b s = s
-keeping-filled {key} {u} (more n few) b s = pasted-bytes (u .accounts .keys) (u .accounts .count * accountKeySize) key s b
+keeping-filled unfit b s = s
+keeping-filled (again a) b s = s
+keeping-filled {key} {u} (more n new) b s = first-bytes (placeFor (u .accounts)) key (u .accounts .keys) b s
 
 read-filled : (nonce : List ℕ) (u : TagUnit) → Filled u → Filled (issuing nonce u .unit)
 unfolding issuing
@@ -58,10 +57,11 @@ written-filled : {u : TagUnit} {w : Written} {o : Outcome} → Ended u w o → F
 unfolding cleared
 written-filled (unreached n out) s = s
 written-filled (turned n) s = s
-written-filled (served sh l (set key e o)) s = s
-written-filled (served sh l (clear e)) s = zeros 80
+written-filled {u} (served sh l (set key e o)) s = first-bytes (placeOf key (heldKeys (u .accounts))) key (u .accounts .keys) (owner-bytes (u .accounts) key o s) s
+written-filled (served sh l (clear e)) s = zeros 160
 written-filled (served sh l (recovered key e o)) s = s
-written-filled (served sh l (other k a)) s = rw (a .table) s
+written-filled (served sh l (used k a)) s = uses-bytes a s
+written-filled (served sh l (other k a)) s = rw (a .accounts) s
 
 disconnected-filled : {u v : TagUnit} → Disconnecting u v → Filled u → Filled v
 disconnected-filled (nothingIn none) s = s
@@ -73,7 +73,7 @@ own-filled (aRead {nonce}) u b s = read-filled nonce u s
 own-filled (aWrite {w}) u b s = written-filled (ends-written u w) s
 own-filled (aKey {key}) u b s = keeping-filled (keeps key u) b s
 own-filled aDisconnect u b s = disconnected-filled (disconnects u) s
-own-filled (aside k leaves) u b s = rw (leaves u .table) s
+own-filled (aside k leaves) u b s = rw (leaves u .accounts) s
 
 step-filled : (a : Act) (u : TagUnit) → OfBytes a → Filled u → Filled (step a u .unit)
 step-filled a u b s = go (met a u)
@@ -106,4 +106,4 @@ pub owner-sixteen : (s : Settings) (h : List Act) → AllOfBytes h → wellForme
 unfolding ownerKey ownerLegal
 owner-sixteen s h b w key e =
     let u = after h (fresh s) in
-    row-sixteen (u .accounts .owner) (u .accounts) (lines u w .accounts) (history-filled h (fresh s) b (zeros 80)) (lines u w .owner) key e
+    row-sixteen (u .accounts .owner) (u .accounts) (lines u w .accounts) (history-filled h (fresh s) b (zeros 160)) (lines u w .owner) key e

@@ -1,5 +1,5 @@
 -- "While a key stays set": what each act does to the key in force, the waiting key and the owner's key, and what follows over a list. The
--- owner's key stays until 0x03 is accepted, for account keys are only added behind it; the key in force until then or until a disconnect
+-- owner's key stays until 0x03 is accepted, for no use moves it away and no arrival drops it; the key in force until then or until a disconnect
 -- brings another in; the waiting key until it is brought in, replaced or dropped.
 use Prim.Native.Nat.{ℕ, _<_}
 use mathlib.Core.Path.{_≡_, refl, ap, _∙_}
@@ -7,20 +7,17 @@ use mathlib.Core.Bool.{true, false}
 use mathlib.Core.List.{List, [], _∷_, _++_}
 use mathlib.Core.Option.{some}
 use native.Mathlib.Omega.{arith}
-use lib.ListN.{length, List·getD-append}
-use borrow.Author.Tests.{ltb-true}
 use Rattle.laws.proofs.Flags.{clash}
-use Rattle.sizes.specs.Sizes.{accountKeySize, mostKeys}
 use Rattle.wire.specs.Shape.{parsed}
 use Rattle.unit.specs.declared.TagUnit.{TagUnit}
-use Rattle.unit.specs.declared.Accounts.{Accounts}
-use Rattle.unit.specs.declared.Owner.{Owner}
 use Rattle.unit.specs.declared.Identity.{Identity}
-use Rattle.unit.specs.WellFormed.{wellFormed, heldKeys, rowOf, ownerKey, ownerLegal, placeLegal}
-use Rattle.unit.specs.Change.{withNewKey}
+use Rattle.unit.specs.WellFormed.{wellFormed, ownerKey}
+use Rattle.unit.specs.Change.{spent}
 use Rattle.unit.specs.Outcome.{Outcome}
-use Rattle.unit.proofs.Lines.{lines, AccountsLines, held-count}
-use Rattle.unit.proofs.Adding.{held-after}
+use Rattle.unit.proofs.Lines.{lines}
+use Rattle.unit.proofs.Kept.{spent-kept}
+use Rattle.account_keys.specs.Order.{keyUsed}
+use Rattle.account_keys.proofs.Order.{key-owned, added-owned}
 use Rattle.provisioning.specs.Provisioning.{cleared}
 use Rattle.nonces.specs.Nonces.{nonceFits}
 use Rattle.tag.specs.Own.{issuing}
@@ -28,8 +25,9 @@ use Rattle.tag.specs.Calls.{Written, write, disconnect, own, Act, calls}
 use Rattle.demands.specs.History.{step, after}
 use Rattle.demands.specs.Among.{NoneIn, Accepts, accepts, BringsIn, bringsIn}
 use Rattle.demands.proofs.Guards.{ownOf, met, Met, barred, passed}
-use Rattle.demands.proofs.WritesOnKeys.{choose, set, clear, recovered, other, Ended, unreached, turned, served, ends-written}
-use Rattle.demands.proofs.OtherCalls.{Sorted, aRead, aWrite, aKey, aDisconnect, aside, sorted, Keeping, same, more, keeps, Disconnecting, nothingIn, keyIn, disconnects}
+use Rattle.demands.proofs.WritesOnKeys.{uses-key, choose, set, clear, recovered, used, other, Ended, unreached, turned, served, ends-written}
+use Rattle.demands.proofs.KeyUses.{owner-held-key}
+use Rattle.demands.proofs.OtherCalls.{Sorted, aRead, aWrite, aKey, aDisconnect, aside, sorted, Keeping, unfit, again, more, keeps, Disconnecting, nothingIn, keyIn, disconnects}
 
 -- The unit v has the owner's key of u, where u has one
 abbrev pub Owns : TagUnit → TagUnit → Type 0
@@ -45,40 +43,36 @@ pub data OnKeys (a : Act) (u v : TagUnit) : Type 0 where
 untouched : (a : Act) (u : TagUnit) → OnKeys a u u
 untouched a u = kept (λ key e. e) refl refl
 
--- One key more leaves the owner's at its place
-row-stays : (o : Owner) (l : List (List ℕ)) (k : List ℕ) → placeLegal o (length l) ≡ true → (key : List ℕ) → rowOf o l ≡ some key
-    → rowOf o (l ++ (k ∷ [])) ≡ some key
-row-stays Owner.Nobody l k h key e = e
-row-stays (Owner.Place p) l k h key e = ap some (List·getD-append l (k ∷ []) [] p (ltb-true p (length l) h)) ∙ e
-
-added-owner : (k : List ℕ) (a : Accounts) → AccountsLines a → ownerLegal a ≡ true → length k ≡ accountKeySize → a .count < mostKeys → (key : List ℕ)
-    → ownerKey a ≡ some key → ownerKey (withNewKey k a) ≡ some key
-unfolding ownerKey ownerLegal
-added-owner k a l legal sized few key e =
-    ap (rowOf (a .owner)) (held-after k a l sized few)
-    ∙ row-stays (a .owner) (heldKeys a) k (rw (held-count a) legal) key e
-
 -- Each act that passes
 key-acts : (a : Act) {key : List ℕ} {u : TagUnit} {o : Outcome} → wellFormed u ≡ true → Keeping key u o → OnKeys a u (o .unit)
-key-acts a {u = u} w same = untouched a u
-key-acts a {key} {u} w (more n few) =
+key-acts a {u = u} w unfit = untouched a u
+key-acts a {u = u} w (again h) = untouched a u
+key-acts a {key} {u} w (more n new) =
     let l = lines u w in
-    kept (added-owner key (u .accounts) (l .accounts) (l .owner) n few) refl refl
+    kept (λ k e. added-owned (u .accounts) (l .accounts) key n new (l .owner) ∙ e) refl refl
 
 read-acts : (a : Act) (nonce : List ℕ) (u : TagUnit) → OnKeys a u (issuing nonce u .unit)
 unfolding issuing
 read-acts a nonce u =
     choose (λ (o : Outcome). OnKeys a u (o .unit)) (nonceFits (u .nonces) nonce) (λ e. kept (λ key e. e) refl refl) (λ e. untouched a u)
 
-write-acts : (w : Written) (room : ℕ) (u : TagUnit) {o : Outcome} → Ended u w o → step (calls (write w) room) u ≡ o
+-- the owner's key, once it was used in an accepted 0x02
+pub set-owned : (u : TagUnit) → wellFormed u ≡ true → (key : List ℕ) → ownerKey (u .accounts) ≡ some key → ownerKey (keyUsed key (u .accounts)) ≡ ownerKey (u .accounts)
+set-owned u w key o =
+    let l = lines u w in
+    key-owned (u .accounts) (l .accounts) key (owner-held-key u w key o) (l .owner)
+
+write-acts : (w : Written) (room : ℕ) (u : TagUnit) → wellFormed u ≡ true → {o : Outcome} → Ended u w o → step (calls (write w) room) u ≡ o
     → OnKeys (calls (write w) room) u (o .unit)
 unfolding parsed cleared
-write-acts w room u (unreached n out) e = kept (λ key e. e) refl refl
-write-acts w room u (turned n) e = kept (λ key e. e) refl refl
-write-acts w room u (served {answer = a} s l (set key id o)) e = sets (accepts id (a, ap (λ (x : Outcome). x .result) e)) (λ key e. e) refl
-write-acts w room u (served {answer = a} s l (clear id)) e = drops (accepts id (a, ap (λ (x : Outcome). x .result) e)) refl
-write-acts w room u (served s l (recovered key id o)) e = kept (λ key e. e) refl refl
-write-acts w room u (served s l (other k a)) e = kept (a .owner) (a .identity) (a .waiting)
+write-acts w room u f (unreached n out) e = kept (λ key e. e) refl refl
+write-acts w room u f (turned n) e = kept (λ key e. e) refl refl
+write-acts w room u f (served {answer = a} s l (set key id o)) e =
+    sets (accepts id (a, ap (λ (x : Outcome). x .result) e)) (λ k h. set-owned u f key o ∙ h) refl
+write-acts w room u f (served {answer = a} s l (clear id)) e = drops (accepts id (a, ap (λ (x : Outcome). x .result) e)) refl
+write-acts w room u f (served s l (recovered key id o)) e = kept (λ key e. e) refl refl
+write-acts w room u f (served s l (used k a)) e = kept (uses-key (spent u) (parsed (w .bytes)) (spent-kept u f) a) refl refl
+write-acts w room u f (served s l (other k a)) e = kept (λ key h. ap ownerKey (a .accounts) ∙ h) (a .identity) (a .waiting)
 
 disconnect-acts : (room : ℕ) {u v : TagUnit} → wellFormed u ≡ true → Disconnecting u v → OnKeys (calls disconnect room) u v
 disconnect-acts room {u} w (nothingIn absent) = untouched (calls disconnect room) u
@@ -87,10 +81,10 @@ disconnect-acts room w (keyIn held) = brings (bringsIn w held) (λ key e. e) ref
 own-acts : {a : Act} → Sorted a → (u : TagUnit) → wellFormed u ≡ true → step a u ≡ ownOf a u → OnKeys a u (ownOf a u .unit)
 unfolding own
 own-acts {a} (aRead {nonce}) u formed e = read-acts a nonce u
-own-acts (aWrite {w} {room}) u formed e = write-acts w room u (ends-written u w) e
+own-acts (aWrite {w} {room}) u formed e = write-acts w room u formed (ends-written u w) e
 own-acts {a} (aKey {key}) u formed e = key-acts a formed (keeps key u)
 own-acts (aDisconnect {room}) u formed e = disconnect-acts room formed (disconnects u)
-own-acts (aside k leaves) u formed e = kept (leaves u .owner) (leaves u .identity) (leaves u .waiting)
+own-acts (aside k leaves) u formed e = kept (λ key h. ap ownerKey (leaves u .accounts) ∙ h) (leaves u .identity) (leaves u .waiting)
 
 pub on-keys : (a : Act) (u : TagUnit) → OnKeys a u (step a u .unit)
 on-keys a u = go (met a u)

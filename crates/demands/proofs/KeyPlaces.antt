@@ -1,5 +1,5 @@
 -- Account keys by their places in the table: the key that a search finds, the owner's, and the sixteen bytes at a place are the same.
-use Prim.Native.Nat.{ℕ, suc, _*_, _<_}
+use Prim.Native.Nat.{ℕ, zero, suc, _*_, _<_}
 use mathlib.Core.Path.{_≡_, refl, sym, ap, _∙_}
 use mathlib.Core.Bool.{Bool, true, false, cond}
 use mathlib.Core.List.{List, [], _∷_}
@@ -14,25 +14,37 @@ use Rattle.unit.specs.WellFormed.{wellFormed, heldKeys, rowOf, ownerKey}
 use Rattle.unit.proofs.Lines.{lines, owner-held}
 use Rattle.demands.specs.Spelled.{keyAtPlace, OwnedWith}
 
--- the first row that passes a test has a place, and passes it
+-- the first row that passes a test has a place, and passes it; those before it fail
 pub record FoundAt (test : List ℕ → Bool) (l : List (List ℕ)) (key : List ℕ) : Type 0 where
   pub place : ℕ
   pub below : place < length l
   pub there : getD l place [] ≡ key
   pub passes : test key ≡ true
+  pub earlier : (i : ℕ) → i < place → test (getD l i []) ≡ false
 
 pub found-at : (test : List ℕ → Bool) (l : List (List ℕ)) (key : List ℕ) → firstThat test l ≡ some key → FoundAt test l key
 unfolding firstThat
 found-at test [] key e = let z : _≡_ {A = ℕ} 0 1 = cc in absurd (omega arith)
 found-at test (x ∷ xs) key e = go (test x) refl e (found-at test xs key)
   where
-    further : FoundAt test xs key → FoundAt test (x ∷ xs) key
-    further f = record { place = suc (f .place); below = omega (arith, f .below); there = f .there; passes = f .passes }
+    before : test x ≡ false → (p : ℕ) → ((i : ℕ) → i < p → test (getD xs i []) ≡ false) → (i : ℕ) → i < suc p → test (getD (x ∷ xs) i []) ≡ false
+    before t p f zero h = t
+    before t p f (suc i) h = f i (omega arith)
+
+    further : test x ≡ false → FoundAt test xs key → FoundAt test (x ∷ xs) key
+    further t f =
+        record {
+          place = suc (f .place);
+          below = omega (arith, f .below);
+          there = f .there;
+          passes = f .passes;
+          earlier = before t (f .place) (f .earlier);
+        }
 
     go : (b : Bool) → test x ≡ b → cond b (some x) (firstThat test xs) ≡ some key → (firstThat test xs ≡ some key → FoundAt test xs key)
         → FoundAt test (x ∷ xs) key
-    go true t h later = let same : x ≡ key = cc in record { place = 0; below = omega arith; there = same; passes = rw same at t }
-    go false t h later = further (later h)
+    go true t h later = let same : x ≡ key = cc in record { place = 0; below = omega arith; there = same; passes = rw same at t; earlier = λ i b. absurd (omega arith) }
+    go false t h later = further t (later h)
 
 -- a row that is held is the bytes at its place
 pub held-at : (u : TagUnit) (p : ℕ) → p < u .accounts .count → getD (heldKeys (u .accounts)) p [] ≡ keyAtPlace u p

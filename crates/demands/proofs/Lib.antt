@@ -8,6 +8,7 @@ pub mod RingTenths
 pub mod Histories
 pub mod OfBytes
 pub mod HeldKeys
+pub mod KeyUses
 pub mod Writes
 pub mod Formed
 pub mod Passing
@@ -33,6 +34,9 @@ pub mod RingLasts
 pub mod ConsentLasts
 pub mod Sleeps
 pub mod SleepUntil
+pub mod FirstOthers
+pub mod KeptKeys
+pub mod KeysByUse
 pub mod KeyKept
 pub mod KeyBytes
 pub mod Blocks

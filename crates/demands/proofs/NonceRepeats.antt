@@ -1,32 +1,31 @@
 -- Refusal 3 by the history's reads: what the record holds is the last sixteen of them, the newest first. A successful read puts its own before
 -- them, a write that passes 6 and 2 keeps them all, and no other call touches them.
-use Prim.Native.Nat.{ℕ, zero, suc, _≤_, _<_}
+use Prim.Native.Nat.{ℕ, zero, suc, _<_}
 use mathlib.Core.Path.{_≡_, refl, sym, ap, _∙_}
 use mathlib.Core.Bool.{true, false}
 use mathlib.Core.List.{List, [], _∷_, _++_, append-nil, append-assoc}
 use native.Mathlib.Omega.{arith}
 use lib.ListN.{length, getD, take}
 use lib.Seq.{take-take}
-use Rattle.laws.specs.Answer.{gives, refuses}
-use Rattle.laws.proofs.Flags.{true-or-false, fails}
+use Rattle.laws.proofs.Flags.{fails}
 use Rattle.tables.specs.Rows.{rows, among}
-use Rattle.nonces.specs.Nonces.{issuedNonces, withIssued}
+use Rattle.nonces.specs.Nonces.{issuedNonces}
 use Rattle.nonces.proofs.Lines.{nonces-lines, issued-count}
 use Rattle.nonces.proofs.Issuing.{issued-first, fits-sized}
 use Rattle.unit.specs.declared.TagUnit.{TagUnit}
 use Rattle.unit.specs.declared.Settings.{Settings}
 use Rattle.unit.specs.Change.{fresh}
-use Rattle.unit.specs.WellFormed.{wellFormed, settingsLegal}
+use Rattle.unit.specs.WellFormed.{wellFormed}
 use Rattle.unit.specs.Outcome.{Outcome}
 use Rattle.unit.proofs.Lines.{lines}
 use Rattle.tag.specs.Calls.{read, Act, calls}
 use Rattle.demands.specs.History.{step, after}
 use Rattle.demands.specs.Nonces.{Succeeds, Issues, issues}
-use Rattle.demands.specs.RefusalOrder.{Own, nonceLength, nonceHeld, Lent, own}
-use Rattle.demands.specs.NonceRepeats.{ReadIn, none, reads, others, OfTheLast16, NonceRepeats}
+use Rattle.demands.specs.RefusalOrder.{nonceLength, nonceHeld, own}
+use Rattle.demands.specs.NonceRepeats.{ReadIn, none, reads, others, NonceRepeats}
 use Rattle.demands.proofs.CallsOnNonce.{Noncing, issue, spend, keep, issues-kind, noncing}
-use Rattle.demands.proofs.Histories.{after-append}
-use Rattle.demands.proofs.Formed.{formed}
+use Rattle.demands.proofs.Histories.{one-more}
+use Rattle.demands.proofs.Formed.{formed, formed-along}
 use Rattle.demands.proofs.LentRoom.{lent-room}
 use Rattle.demands.proofs.RefusalOrder.{refusal-order}
 use Rattle.demands.proofs.RecordLines.{nonce-at, among-found}
@@ -46,15 +45,6 @@ in-front zero l i h k = absurd (omega arith)
 in-front (suc n) [] i h k = absurd (omega arith)
 in-front (suc n) (x ∷ xs) zero h k = omega arith
 in-front (suc n) (x ∷ xs) (suc i) h k = let f = in-front n xs i (omega arith) (omega arith) in omega arith
-
-one-more : (h : List Act) (a : Act) (u : TagUnit) → after (h ++ (a ∷ [])) u ≡ step a (after h u) .unit
-unfolding after
-one-more h a u = after-append h (a ∷ []) u
-
-formed-along : (h : List Act) (u : TagUnit) → wellFormed u ≡ true → wellFormed (after h u) ≡ true
-unfolding after
-formed-along [] u w = w
-formed-along (a ∷ h) u w = formed-along h (step a u .unit) (formed .kept a u w)
 
 -- What one act leaves
 read-holds : {nonce : List ℕ} {room : ℕ} {v : TagUnit} → wellFormed v ≡ true → Noncing (calls (read nonce) room) v → Succeeds (calls (read nonce) room) v

@@ -1,21 +1,21 @@
--- What the calls other than writes do to nonce and keys: a read changes the nonce only, an account key is added behind the others only, a
+-- What the calls other than writes do to nonce and keys: a read changes the nonce only, a new account key comes first, a
 -- disconnect brings a waiting key in or does nothing, and the rest leave all of it alone.
-use Prim.Native.Nat.{ℕ, zero, suc, _<_}
+use Prim.Native.Nat.{ℕ, zero, suc}
 use mathlib.Core.Path.{_≡_, refl, _∙_}
 use mathlib.Core.Bool.{true, false, not}
 use mathlib.Core.List.{List, []}
-use lib.Dec.{eqb, leb, ltb}
+use lib.Dec.{eqb, leb}
 use lib.ListN.{length}
-use borrow.Author.Tests.{eqb-true, ltb-true, not-false}
-use Rattle.laws.specs.Answer.{Result}
+use borrow.Author.Tests.{eqb-true, not-false}
 use Rattle.unit.specs.declared.TagUnit.{TagUnit}
 use Rattle.unit.specs.declared.Sound.{Sound}
-use Rattle.sizes.specs.Sizes.{accountKeySize, mostKeys, highestBattery}
+use Rattle.sizes.specs.Sizes.{accountKeySize, highestBattery}
 use Rattle.tables.specs.Rows.{among}
 use Rattle.unit.specs.WellFormed.{heldKeys}
 use Rattle.standing.specs.Standing.{stands}
-use Rattle.unit.specs.Change.{withAccounts, withNewKey}
-use Rattle.unit.specs.Outcome.{Outcome, giving}
+use Rattle.unit.specs.Change.{withAccounts}
+use Rattle.account_keys.specs.Order.{keyAdded}
+use Rattle.unit.specs.Outcome.{Outcome, giving, refusing}
 use Rattle.time.specs.Time.{endsNext, ringOn, oneTenth, afterTenth, tenths}
 use Rattle.advertising.specs.Showing.{showing}
 use Rattle.tag.specs.Own.{pressed, charged, keeping, broughtIn, disconnected}
@@ -31,10 +31,9 @@ then : {u v w : TagUnit} → Alone u v → Alone v w → Alone u w
 then f g =
     record {
       nonce = g .nonce ∙ f .nonce;
-      table = g .table ∙ f .table;
+      accounts = g .accounts ∙ f .accounts;
       identity = g .identity ∙ f .identity;
       waiting = g .waiting ∙ f .waiting;
-      owner = λ key e. g .owner key (f .owner key e);
     }
 
 ring-alone : (u : TagUnit) → Alone u (ringOn u)
@@ -45,7 +44,7 @@ tenth-alone : (u : TagUnit) → Alone u (oneTenth u)
 unfolding oneTenth
 tenth-alone u =
     let r = ring-alone u in
-    record { nonce = r .nonce; table = r .table; identity = r .identity; waiting = r .waiting; owner = r .owner }
+    record { nonce = r .nonce; accounts = r .accounts; identity = r .identity; waiting = r .waiting }
 
 tenths-alone : (n : ℕ) (u : TagUnit) → Alone u (tenths n u .unit)
 unfolding tenths afterTenth
@@ -102,19 +101,16 @@ sorted (waits n room) = aside {a = waits n room} refl (tenths-alone n)
 
 -- What became of a lent account key
 pub data Keeping (key : List ℕ) (u : TagUnit) : Outcome → Type 0 where
-  same : {r : Result} → Keeping key u (record { unit = u; result = r; ended = 0 })
-  more : length key ≡ accountKeySize → u .accounts .count < mostKeys → Keeping key u (giving [] (withAccounts (withNewKey key (u .accounts)) u))
+  unfit : Keeping key u (refusing 4 u)
+  again : among key (heldKeys (u .accounts)) ≡ true → Keeping key u (giving [] u)
+  more : length key ≡ accountKeySize → among key (heldKeys (u .accounts)) ≡ false → Keeping key u (giving [] (withAccounts (keyAdded key (u .accounts)) u))
 
 pub keeps : (key : List ℕ) (u : TagUnit) → Keeping key u (keeping key u)
 unfolding keeping
 keeps key u =
-    choose (Keeping key u) (not (eqb (length key) accountKeySize)) (λ e. same)
+    choose (Keeping key u) (not (eqb (length key) accountKeySize)) (λ e. unfit)
     (λ e.
-    choose (Keeping key u) (among key (heldKeys (u .accounts))) (λ a. same)
-    (λ a.
-    choose (Keeping key u) (ltb (u .accounts .count) mostKeys)
-    (λ few. more (eqb-true (length key) accountKeySize (not-false _ e)) (ltb-true (u .accounts .count) mostKeys few))
-    (λ few. same)))
+    choose (Keeping key u) (among key (heldKeys (u .accounts))) again (λ new. more (eqb-true (length key) accountKeySize (not-false _ e)) new))
 
 -- What became of the keys at a disconnect
 pub data Disconnecting (u : TagUnit) : TagUnit → Type 0 where

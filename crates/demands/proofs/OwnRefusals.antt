@@ -31,7 +31,7 @@ use Rattle.tag.specs.Calls.{Written, read, write, button, pairing, battery, acc
 use Rattle.demands.specs.History.{step}
 use Rattle.demands.specs.Spelled.{keyAtPlace, nonceAtPlace}
 use Rattle.demands.specs.RecordLines.{RecordLines}
-use Rattle.demands.specs.RefusalOrder.{Own, nonceLength, nonceHeld, reachOutside, ofWrite, batteryLevel, keyLength, sixthKey, frameWithoutKey, frameOfZero}
+use Rattle.demands.specs.RefusalOrder.{Own, nonceLength, nonceHeld, reachOutside, ofWrite, batteryLevel, keyLength, frameWithoutKey, frameOfZero}
 use Rattle.demands.specs.EphemeralIdentifier.{rOf}
 use Rattle.demands.proofs.EphemeralIdentifier.{stands-is}
 use Rattle.demands.proofs.Choices.{tested}
@@ -73,23 +73,13 @@ module _ (u : TagUnit) (l : RecordLines u) where
   battery-found level room =
       tested (Found u (calls (battery level) room)) (leb level 3) (λ e. answered _ refl) (λ e. refused (batteryLevel (leb-false level 3 e)))
 
-  full : (key : List ℕ) (room : ℕ) → among key (heldKeys (u .accounts)) ≡ false → ltb (u .accounts .count) 5 ≡ false
-      → Own u (calls (accountKey key) room) 4
-  full key room new most =
-      let count : u .accounts .count ≡ 5 = omega (arith, ltb-false (u .accounts .count) 5 most, l .keysHeld) in
-      sixthKey count
-      (λ p h e.
-      let row : getD (heldKeys (u .accounts)) p [] ≡ key = key-at u p (omega arith) ∙ e in
-      clash (rw row at (among-place (heldKeys (u .accounts)) p (omega (arith, held-count (u .accounts))))) new)
-
   key-found : (key : List ℕ) (room : ℕ) → Found u (calls (accountKey key) room) (keeping key u)
   unfolding keeping
   key-found key room =
       let P = Found u (calls (accountKey key) room) in
       tested P (not (eqb (length key) 16)) (λ e. refused (keyLength (eqb-false _ _ (not-true _ e))))
       (λ e.
-      tested P (among key (heldKeys (u .accounts))) (λ h. answered _ refl)
-      (λ h. tested P (ltb (u .accounts .count) 5) (λ k. answered _ refl) (λ k. refused (full key room h k))))
+      tested P (among key (heldKeys (u .accounts))) (λ h. answered _ refl) (λ h. answered _ refl))
 
   frame-found : (room : ℕ) → Found u (calls frame room) (showing u)
   unfolding showing
@@ -164,21 +154,6 @@ module _ (u : TagUnit) (l : RecordLines u) where
   unfolding keeping
   not-sixteen key h = rw (ne-eqb (length key) 16 h)
 
-  not-among : (key : List ℕ) → u .accounts .count ≡ 5 → ((p : ℕ) → p < 5 → keyAtPlace u p ≡ key → ⊥) → among key (heldKeys (u .accounts)) ≡ false
-  not-among key count new =
-      fails (among key (heldKeys (u .accounts)))
-      (λ e.
-      let found = among-found key (heldKeys (u .accounts)) e in
-      let below : found .0 < 5 = omega (arith, found .1, held-count (u .accounts)) in
-      new (found .0) below (sym (key-at u (found .0) (omega arith)) ∙ sym (found .2)))
-
-  no-room-for : (key : List ℕ) → u .accounts .count ≡ 5 → ((p : ℕ) → p < 5 → keyAtPlace u p ≡ key → ⊥) → keeping key u ≡ refusing 4 u
-  unfolding keeping
-  no-room-for key count new =
-      let absent : among key (heldKeys (u .accounts)) ≡ false = not-among key count new in
-      let most : ltb (u .accounts .count) 5 ≡ false = le-ltb (u .accounts .count) 5 (omega arith) in
-      rw (absent, most) (same-either (not (eqb (length key) 16)) (refusing 4 u))
-
   no-frame : stands u ≡ false → showing u ≡ refusing 5 u
   unfolding showing
   no-frame e = rw e
@@ -192,7 +167,6 @@ module _ (u : TagUnit) (l : RecordLines u) where
   own-refuses (ofWrite {w} {room} {n} within r) right fits = write-refused u (w .reach) room (w .bytes) n right fits within r .number
   own-refuses {a} (batteryLevel {level} h) right fits = rw (through a u fits right, too-high level h)
   own-refuses {a} (keyLength {key} h) right fits = rw (through a u fits right, not-sixteen key h)
-  own-refuses {a} (sixthKey {key} count new) right fits = rw (through a u fits right, no-room-for key count new)
   own-refuses {a} (frameWithoutKey e) right fits = rw (through a u fits right, no-frame (stands-is u ∙ and-fails-left _ e))
   own-refuses {a} (frameOfZero e) right fits =
       rw (through a u fits right, no-frame (stands-is u ∙ and-fails-right (u .identity .held) (ap not (eq-eqb (rOf u) 0 e))))

@@ -22,18 +22,18 @@ use Rattle.unit.specs.declared.Identity.{Identity}
 use Rattle.unit.specs.WellFormed.{wellFormed, ownerKey}
 use Rattle.unit.specs.Change.{fresh, spent}
 use Rattle.authentication.specs.Judgement.{accepts, lastNonce}
-use Rattle.provisioning.specs.Provisioning.{awaiting}
+use Rattle.provisioning.specs.Provisioning.{afterUse, awaiting}
 use Rattle.tag.specs.Calls.{Written, disconnect, Act, calls}
 use Rattle.demands.specs.History.{step, after, writes, Bytes}
 use Rattle.demands.specs.Among.{NoneIn, Accepts, accepts, BringsIn, bringsIn}
 use Rattle.demands.specs.Events.{BroughtIn}
 use Rattle.demands.specs.Recovery.{dataOf, Demand2Recovery}
 use Rattle.demands.proofs.Judging.{data-signed}
-use Rattle.demands.proofs.WritesOnKeys.{Did, set, clear, recovered, other, accepted-write}
+use Rattle.demands.proofs.WritesOnKeys.{Did, set, clear, recovered, used, other, accepted-write}
 use Rattle.demands.proofs.OfBytes.{bytes-drop, split-bytes}
 use Rattle.demands.proofs.Histories.{after-append}
 use Rattle.demands.proofs.Events.{events}
-use Rattle.demands.proofs.KeyKept.{InForce, stays-in-force, Waiting, still-waiting}
+use Rattle.demands.proofs.KeyKept.{set-owned, InForce, stays-in-force, Waiting, still-waiting}
 use Rattle.demands.proofs.KeyBytes.{Sixteen, owner-sixteen}
 use Rattle.demands.proofs.Blocks.{round-trip}
 
@@ -52,11 +52,12 @@ long-enough w legal id =
 
 -- what an accepted 0x02 made of the unit
 was-set : {u v : TagUnit} {q : Request} {answer : List ℕ} → Did u q (accepts v answer) → q .id ≡ 0x02
-    → (key : List ℕ) × (ownerKey (u .accounts) ≡ some key) × (v ≡ awaiting (decryptedKey key (q .additional)) u)
+    → (key : List ℕ) × (ownerKey (u .accounts) ≡ some key) × (v ≡ awaiting (decryptedKey key (q .additional)) (afterUse key u))
 was-set (set key e o) id = (key, o, refl)
 was-set (clear e) id = absurd (omega arith)
 was-set (recovered key e o) id = absurd (omega arith)
-was-set (other k a) id = absurd (k .notSet id)
+was-set (used k a) id = absurd (k .notSet id)
+was-set (other k a) id = absurd (omega arith)
 
 -- what an accepted 0x04 answered
 was-recovered : {u v : TagUnit} {q : Request} {answer : List ℕ} → Did u q (accepts v answer) → q .id ≡ 0x04
@@ -65,7 +66,8 @@ was-recovered (set key e o) id = absurd (omega arith)
 was-recovered (clear e) id = absurd (omega arith)
 was-recovered {u} {q = q} (recovered key e o) id =
     (key, o, data-signed (recoveryKey (u .identity .bytes)) (lastNonce u) (q .id) (encryptedKey key (u .identity .bytes)))
-was-recovered (other k a) id = absurd (k .notRecovered id)
+was-recovered (used k a) id = absurd (k .notRecovered id)
+was-recovered (other k a) id = absurd (omega arith)
 
 -- An accepted 0x02 of these bytes: the owner's key, and what waits then
 pub record KeySet (u : TagUnit) (bytes : List ℕ) (v : TagUnit) : Type 0 where
@@ -73,7 +75,7 @@ pub record KeySet (u : TagUnit) (bytes : List ℕ) (v : TagUnit) : Type 0 where
   pub long : 32 ≤ length (dataOf bytes)
   pub key : List ℕ
   pub owner : ownerKey (u .accounts) ≡ some key
-  pub left : v ≡ awaiting (decryptedKey key (dataOf bytes)) (spent u)
+  pub left : v ≡ awaiting (decryptedKey key (dataOf bytes)) (afterUse key (spent u))
 
 pub key-set : (w : Written) (room : ℕ) (u : TagUnit) → Accepts 0x02 (writes w room) u → KeySet u (w .bytes) (step (writes w room) u .unit)
 unfolding parsed
@@ -94,15 +96,15 @@ module _ (u : TagUnit) (bytes : List ℕ) {v w x z : TagUnit} (done : KeySet u b
   owner-then : ownerKey (z .accounts) ≡ some (done .key)
   owner-then =
       later .owner (done .key)
-      (ap ownerKey (brought .rest .3) ∙ between .owner (done .key) (ap (λ (y : TagUnit). ownerKey (y .accounts)) (done .left) ∙ done .owner))
+      (ap ownerKey (brought .rest .3) ∙ between .owner (done .key) (ap (λ (y : TagUnit). ownerKey (y .accounts)) (done .left) ∙ set-owned u (done .formed) (done .key) (done .owner) ∙ done .owner))
 
   same-bytes : (recovering : Written) (room : ℕ) (answer : List ℕ) → getD (recovering .bytes) 0 0 ≡ 0x04 → step (writes recovering room) z .result ≡ gives answer
       → dataOf answer ≡ take 32 (dataOf bytes)
   unfolding parsed
   same-bytes recovering room answer id e =
       let a = accepted-write recovering room z answer e in
-      let (used, owner, answered) = was-recovered (a .did) id in
-      let same-key : used ≡ done .key = cc (owner-then) in
+      let (by, owner, answered) = was-recovered (a .did) id in
+      let same-key : by ≡ done .key = cc (owner-then) in
       answered
       ∙ ap₂ encryptedKey same-key in-force
       ∙ round-trip (done .key) (dataOf bytes) (sixteen (done .key) (done .owner)) (done .long) (bytes-drop 10 bytes octets)

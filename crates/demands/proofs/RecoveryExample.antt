@@ -1,7 +1,7 @@
 -- The demand on recovery is not empty: the example's units one after another, each well formed by what keeps a unit so, and each call
 -- served by the acceptance laws. Nothing is computed.
 use Prim.Native.Nat.{ℕ, zero, suc, _+_, _<_}
-use mathlib.Core.Path.{_≡_, refl, sym, ap, _∙_}
+use mathlib.Core.Path.{_≡_, refl, sym, ap, subst, _∙_}
 use mathlib.Core.Bool.{true, false}
 use mathlib.Core.List.{List, [], _∷_, _++_}
 use mathlib.Core.Logic.{inl}
@@ -21,11 +21,12 @@ use Rattle.unit.specs.declared.Owner.{Owner}
 use Rattle.tables.specs.Rows.{rows, among, placeOf}
 use Rattle.unit.specs.declared.Accounts.{Accounts}
 use Rattle.unit.specs.WellFormed.{settingsLegal, wellFormed, heldKeys}
-use Rattle.unit.specs.Change.{fresh, noAccounts, withAccounts, withNewKey, withNonces, withOwner, withConsent, spent}
+use Rattle.unit.specs.Change.{fresh, noAccounts, withAccounts, withNonces, withOwner, withConsent, spent}
 use Rattle.unit.specs.Outcome.{Outcome, giving, formed}
 use Rattle.unit.proofs.Lines.{lines}
-use Rattle.unit.proofs.Kept.{fresh-formed, issued-kept, spent-kept, accounts-kept, owner-kept, waiting-kept, consent-kept}
-use Rattle.provisioning.specs.Provisioning.{awaiting, ownedBy}
+use Rattle.unit.proofs.Kept.{fresh-formed, issued-kept, spent-kept, owner-kept, waiting-kept, consent-kept}
+use Rattle.account_keys.specs.Order.{keyUsed, keyAdded}
+use Rattle.provisioning.specs.Provisioning.{awaiting, ownedBy, afterUse}
 use Rattle.tag.specs.Own.{keeping, pressed, broughtIn, disconnected}
 use Rattle.tag.specs.Calls.{read, button, accountKey, disconnect, own, guarded, call, Act, calls, act}
 use Rattle.demands.specs.History.{step, after, sends, Bytes, AllOfBytes}
@@ -40,6 +41,7 @@ use Rattle.demands.proofs.Histories.{after-append}
 use Rattle.demands.proofs.Formed.{formed as stays-formed}
 use Rattle.demands.proofs.Judging.{opened, length-requestTag}
 use Rattle.demands.proofs.Accepted.{reads, serves-state, serves-key, accepted}
+use Rattle.demands.proofs.KeyUses.{used-first}
 use Rattle.demands.proofs.OtherCalls.{kind}
 use Rattle.nonces.specs.Nonces.{issuedNonces, withIssued}
 use Rattle.nonces.proofs.Lines.{nonces-lines}
@@ -86,13 +88,13 @@ unit-of o = o .unit
 -- The units after each call but the last, and the history in its three parts
 module _ (s : Settings) (key C n₁ n₂ n₃ : List ℕ) (g : Given s key C n₁ n₂ n₃) where
   abbrev keyed : TagUnit
-  keyed = withAccounts (withNewKey key noAccounts) (fresh s)
+  keyed = withAccounts (keyAdded key noAccounts) (fresh s)
 
   abbrev first : TagUnit
   first = withNonces (withIssued n₁ (keyed .nonces)) keyed
 
   abbrev owned : TagUnit
-  owned = withAccounts (withOwner (Owner.Place 0) (withNewKey key noAccounts)) (spent first)
+  owned = withAccounts (withOwner (Owner.Place 0) (keyAdded key noAccounts)) (spent first)
 
   abbrev second : TagUnit
   second = withNonces (withIssued n₂ (owned .nonces)) owned
@@ -119,18 +121,17 @@ module _ (s : Settings) (key C n₁ n₂ n₃ : List ℕ) (g : Given s key C n�
   end = sends (requestFrom 0x02 key n₂ C) 0 42 ∷ calls disconnect 0 ∷ last
 
   -- the one key held
-  held-key : heldKeys (withNewKey key noAccounts) ≡ key ∷ []
+  held-key : heldKeys (keyAdded key noAccounts) ≡ key ∷ []
   unfolding heldKeys rows
-  held-key = ap (λ (k : List ℕ). k ∷ []) (take-at key (drop (0 + length key) (replicate 80 0)) 16 (g .keyLong))
+  held-key = ap (λ (k : List ℕ). k ∷ []) (take-at key (drop 16 (replicate 160 0)) 16 (g .keyLong))
 
   -- Each call, and the unit after it well formed
-  keyed-formed : wellFormed keyed ≡ true
-  unfolding heldKeys rows among
-  keyed-formed = accounts-kept (fresh s) (fresh-formed s (g .legal)) key (g .keyLong) (omega arith) refl
-
   adds : step (calls (accountKey key) 0) (fresh s) ≡ giving [] keyed
   unfolding act call guarded own keeping formed heldKeys rows among
   adds = rw (fresh-formed s (g .legal), eq-eqb (length key) 16 (g .keyLong))
+
+  keyed-formed : wellFormed keyed ≡ true
+  keyed-formed = rw (ap unit-of adds) at (stays-formed .kept (calls (accountKey key) 0) (fresh s) (fresh-formed s (g .legal)))
 
   -- none of the nonces is held when it is lent
   first-fits : among n₁ (issuedNonces (keyed .nonces)) ≡ false
@@ -143,23 +144,31 @@ module _ (s : Settings) (key C n₁ n₂ n₃ : List ℕ) (g : Given s key C n�
   owned-formed : wellFormed owned ≡ true
   owned-formed = owner-kept (spent first) (spent-kept first first-formed) 0 (omega arith)
 
-  owner-first : ownedBy key (withNewKey key noAccounts) ≡ withOwner (Owner.Place 0) (withNewKey key noAccounts)
+  owner-first : ownedBy key (keyAdded key noAccounts) ≡ withOwner (Owner.Place 0) (keyAdded key noAccounts)
   unfolding placeOf
   owner-first = rw (held-key, same-refl key)
 
   -- the key stands at place 0, and is the owner's
   at-first : keyAtPlace keyed 0 ≡ key
-  at-first = take-at key (drop (0 + length key) (replicate 80 0)) 16 (g .keyLong)
+  at-first = take-at key (drop 16 (replicate 160 0)) 16 (g .keyLong)
 
   owner-key : OwnedWith second key
   owner-key = (0, refl, at-first)
+
+  -- a use of the only key moves nothing
+  stays-first : keyUsed key (owned .accounts) ≡ owned .accounts
+  unfolding heldKeys
+  stays-first =
+      subst (λ (k : List ℕ). keyUsed k (owned .accounts) ≡ owned .accounts) (ap (λ (l : List (List ℕ)). getD l 0 []) held-key)
+      (used-first (owned .accounts) (lines owned owned-formed .accounts) (omega arith))
 
   owns-it : step (sends (requestFrom 0x01 key n₁ []) 0 42) first .unit ≡ owned
   owns-it =
       let ready : Open first 0 42 = record { formed = first-formed; live = refl; fits = omega arith; within = λ i k. zero-bit i } in
       let only : First first 0x01 0 = (omega arith, λ i h. absurd (omega arith)) in
-      rw at-first at (serves-state first 0 42 0 {Left = λ (v : TagUnit). v ≡ withAccounts (ownedBy (keyAtPlace first 0) (first .accounts)) (spent first)} ready only refl .left)
-      ∙ ap (λ (a : Accounts). withAccounts a (spent first)) owner-first
+      rw at-first at (serves-state first 0 42 0 {Left = λ (v : TagUnit). v ≡ afterUse (keyAtPlace first 0) (withAccounts (ownedBy (keyAtPlace first 0) (first .accounts)) (spent first))} ready only refl .left)
+      ∙ ap (λ (a : Accounts). withAccounts (keyUsed key a) (spent first)) owner-first
+      ∙ ap (λ (a : Accounts). withAccounts a (spent first)) stays-first
 
   after-first : issuedNonces (owned .nonces) ≡ n₁ ∷ []
   unfolding issuedNonces rows
@@ -174,7 +183,8 @@ module _ (s : Settings) (key C n₁ n₂ n₃ : List ℕ) (g : Given s key C n�
 
   sets-it : Serves (sends (requestFrom 0x02 key n₂ C) 0 42) second (answer second 0x02 key []) (λ (v : TagUnit). v ≡ awaited)
   sets-it =
-      serves-key second 0 42 key C (record { formed = second-formed; live = refl; fits = omega arith; within = λ i k. zero-bit i }) owner-key refl (g .encryptedLong) refl
+      serves-key second 0 42 key C (record { formed = second-formed; live = refl; fits = omega arith; within = λ i k. zero-bit i }) owner-key refl (g .encryptedLong)
+      (ap (λ (a : Accounts). awaiting (decryptedKey key C) (withAccounts a (spent second))) stays-first)
 
   awaited-formed : wellFormed awaited ≡ true
   awaited-formed = waiting-kept (spent second) (spent-kept second second-formed) (decryptedKey key C) refl

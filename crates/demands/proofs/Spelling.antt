@@ -6,9 +6,10 @@ use mathlib.Core.Bool.{true, false, cond}
 use mathlib.Core.List.{List, [], _∷_}
 use mathlib.Core.Option.{some}
 use native.Mathlib.Omega.{arith}
+use native.Mathlib.Numerals.{add-one}
 use native.Mathlib.Nat.{mod-eq-of-lt}
 use lib.Bits.{bitAnd, and-mask}
-use lib.Dec.{eqb}
+use lib.Dec.{eqb, ltb}
 use lib.IntN.{ℤ, pos, negsuc}
 use lib.ListN.{getD}
 use borrow.Author.Tests.{le-leb, eq-eqb, ne-eqb, eqb-true}
@@ -19,6 +20,7 @@ use Rattle.tables.specs.Rows.{placeOf}
 use Rattle.tables.proofs.Rows.{row-at, place-at}
 use Rattle.unit.specs.declared.TagUnit.{TagUnit}
 use Rattle.unit.specs.declared.Settings.{Settings}
+use Rattle.unit.specs.declared.Accounts.{Accounts}
 use Rattle.unit.specs.declared.Owner.{Owner}
 use Rattle.unit.specs.declared.Sound.{Sound}
 use Rattle.unit.specs.Ringable.{inside}
@@ -28,7 +30,8 @@ use Rattle.provisioning.specs.Provisioning.{parameters, wireByte, claimed, isKe
 use Rattle.ringing.specs.Ringing.{ringMask, ringLegal, allOfNone, askedTimeout, soundState}
 use Rattle.demands.proofs.RecordLines.{key-at}
 use Rattle.demands.specs.Spelled.{keyAtPlace, OwnedWith}
-use Rattle.demands.specs.Accepted.{signedByte, parameterBytes, ownerBit, ownerThen, ringable, Means, whole, itself, RingLegal, ringBytes, soundBytes}
+use Rattle.account_keys.specs.Order.{followed, keyUsed}
+use Rattle.demands.specs.Accepted.{broughtFirst, ownerOnceFirst, signedByte, parameterBytes, ownerBit, ownerThen, ringable, Means, whole, itself, RingLegal, ringBytes, soundBytes}
 
 -- Two bytes of a number that has no more, and four
 pub two-bytes : (n : ℕ) → n < 65536 → bigEndian 2 n ≡ (n / 256) ∷ (n % 256) ∷ []
@@ -109,6 +112,11 @@ pub owner-at : (u : TagUnit) (key : List ℕ) → wellFormed u ≡ true → Owne
 unfolding ownerKey heldKeys
 owner-at u key right (p, o, k) = rw (o, key-at u p (owner-held (lines u right) p o), k)
 
+-- where the owner stands once a key is first
+pub owner-moves : (p : ℕ) (o : Owner) → followed p o ≡ ownerOnceFirst p o
+owner-moves p Owner.Nobody = refl
+owner-moves p (Owner.Place q) = ap (λ (n : ℕ). Owner.Place (cond (eqb q p) 0 (cond (ltb q p) n q))) (sym (add-one q))
+
 -- The key used in 0x01 is the one at place p: its place is p, so with no owner it is p's, and another owner's place has another key
 module _ (u : TagUnit) (l : Lines u) (p : ℕ) (held : p < u .accounts .count) where
   key-place : placeOf (keyAtPlace u p) (heldKeys (u .accounts)) ≡ p
@@ -116,17 +124,43 @@ module _ (u : TagUnit) (l : Lines u) (p : ℕ) (held : p < u .accounts .count) w
       rw (← key-at u p held)
       (place-at (heldKeys (u .accounts)) p (l .accounts .different) (omega (arith, held-count (u .accounts))))
 
-  pub claimed-owner : (o : Owner) → u .accounts .owner ≡ o → claimed o (keyAtPlace u p) (u .accounts) .owner ≡ ownerThen o p
-  claimed-owner Owner.Nobody e = ap Owner.Place key-place
-  claimed-owner (Owner.Place q) e = e
+  pub first-keys : (a : Accounts) → heldKeys a ≡ heldKeys (u .accounts) → a .keys ≡ u .accounts .keys
+      → keyUsed (keyAtPlace u p) a .keys ≡ broughtFirst u p
+  first-keys a held keys =
+      let here : placeOf (keyAtPlace u p) (heldKeys a) ≡ p = ap (placeOf (keyAtPlace u p)) held ∙ key-place in
+      let at : p * 16 ≡ 16 * p = omega arith in
+      let past : suc p * 16 ≡ 16 * p + 16 = omega arith in
+      rw (here, keys, at, past)
 
+  claims : (o : Owner) → u .accounts .owner ≡ o → claimed o (keyAtPlace u p) (u .accounts) .owner ≡ ownerThen o p
+  claims Owner.Nobody e = ap Owner.Place key-place
+  claims (Owner.Place q) e = e
+
+  claimed-held : (o : Owner) → heldKeys (claimed o (keyAtPlace u p) (u .accounts)) ≡ heldKeys (u .accounts)
+  unfolding heldKeys
+  claimed-held Owner.Nobody = refl
+  claimed-held (Owner.Place q) = refl
+
+  claimed-table : (o : Owner) → claimed o (keyAtPlace u p) (u .accounts) .keys ≡ u .accounts .keys
+  claimed-table Owner.Nobody = refl
+  claimed-table (Owner.Place q) = refl
+
+  -- the accounts of 0x01: the key is the owner where there was none, and first
   pub claimed-count : (o : Owner) → claimed o (keyAtPlace u p) (u .accounts) .count ≡ u .accounts .count
   claimed-count Owner.Nobody = refl
   claimed-count (Owner.Place q) = refl
 
-  pub claimed-keys : (o : Owner) → claimed o (keyAtPlace u p) (u .accounts) .keys ≡ u .accounts .keys
-  claimed-keys Owner.Nobody = refl
-  claimed-keys (Owner.Place q) = refl
+  pub claimed-keys : (o : Owner) → keyUsed (keyAtPlace u p) (claimed o (keyAtPlace u p) (u .accounts)) .keys ≡ broughtFirst u p
+  claimed-keys o = first-keys (claimed o (keyAtPlace u p) (u .accounts)) (claimed-held o) (claimed-table o)
+
+  pub claimed-owner : (o : Owner) → u .accounts .owner ≡ o
+      → keyUsed (keyAtPlace u p) (claimed o (keyAtPlace u p) (u .accounts)) .owner ≡ ownerOnceFirst p (ownerThen o p)
+  claimed-owner o e =
+      let here : placeOf (keyAtPlace u p) (heldKeys (claimed o (keyAtPlace u p) (u .accounts))) ≡ p = ap (placeOf (keyAtPlace u p)) (claimed-held o) ∙ key-place in
+      rw (here, claims o e) (owner-moves p (ownerThen o p))
+
+  pub used-owner : keyUsed (keyAtPlace u p) (u .accounts) .owner ≡ ownerOnceFirst p (u .accounts .owner)
+  used-owner = rw key-place (owner-moves p (u .accounts .owner))
 
 same-place : (u : TagUnit) → Lines u → (p q : ℕ) → p < u .accounts .count → q < u .accounts .count
     → sameBytes (keyAtPlace u q) (keyAtPlace u p) ≡ eqb q p

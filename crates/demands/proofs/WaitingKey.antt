@@ -20,7 +20,7 @@ use Rattle.demands.specs.Refused.{noIdentityKey}
 use Rattle.demands.specs.Time.{runs, slept, start}
 use Rattle.demands.specs.Among.{NoneIn, Accepts, BringsIn, bringsIn}
 use Rattle.demands.specs.WaitingKey.{Disconnects, disconnects, Connected, Alike, SetTwice, WaitingKey}
-use Rattle.demands.proofs.Formed.{formed}
+use Rattle.demands.proofs.Formed.{formed, formed-along}
 use Rattle.demands.proofs.Histories.{after-append}
 use Rattle.demands.proofs.Refused.{refused}
 use Rattle.demands.proofs.Events.{events}
@@ -110,11 +110,6 @@ coming [] k u last uncleared c = c
 coming (a ∷ l) k u last uncleared c =
     coming l k (step a u .unit) (last .1) (uncleared .1) (next-coming (on-keys a u) (last .0) (uncleared .0) c)
 
-after-formed : (l : List Act) (u : TagUnit) → wellFormed u ≡ true → wellFormed (after l u) ≡ true
-unfolding after
-after-formed [] u w = w
-after-formed (a ∷ l) u w = after-formed l (step a u .unit) (formed .kept a u w)
-
 -- and after one more disconnect it is in force
 disconnected : (u : TagUnit) (lent : ℕ) (bytes : List ℕ) → wellFormed u ≡ true → Coming (identityKey bytes) u
     → step (calls disconnect lent) u .unit .identity ≡ identityKey bytes
@@ -141,7 +136,7 @@ second-comes-in u first firstRoom between second room later lent key twice owned
     let c : Coming (identityKey secret) (after later x) =
     coming later (identityKey secret) x (subst (NoneIn (Accepts 0x02) later) then (twice .noThird)) (subst (NoneIn (Accepts 0x03) later) then (twice .kept))
     (waits (ap (λ (y : TagUnit). y .waiting) (done .left))) in
-    let right = after-formed later x (formed .kept (writes second room) v (done .formed)) in
+    let right = formed-along later x (formed .kept (writes second room) v (done .formed)) in
     ap (λ (y : TagUnit). y .identity)
     (after-append start (writes second room ∷ later ++ (calls disconnect lent ∷ [])) u ∙ after-append later (calls disconnect lent ∷ []) x)
     ∙ disconnected (after later x) lent secret right c

@@ -69,9 +69,23 @@ rung-alike (Decision.Started mask) u k volume left = search alike
 rung-alike Decision.Stopped u k volume left = search alike
 rung-alike Decision.Failed u k volume left = search alike
 
+-- a key that is used, and the owner's in 0x02
+module _ (u : TagUnit) (k : Identity) (q : Request) where
+  parameters-alike : Judges (readParameters u q) (readParameters (withWaiting k u) q)
+  unfolding readParameters usedKey
+  parameters-alike = judges-under (usedKey u q) (λ key. accepted (search))
+
+  state-alike : Judges (readState u q) (readState (withWaiting k u) q)
+  unfolding readState usedKey shownIdentifier stands currentScalar currentIdentifier
+  state-alike = judges-under (usedKey u q) (λ key. accepted (search))
+
+  set-alike : Judges (setKey u q) (setKey (withWaiting k u) q)
+  unfolding setKey mayReplace signedByOwner
+  set-alike = judges-under (signedByOwner u q) (λ key. judges-either (mayReplace u q) (accepted (search)) rejected)
+
 by-id-alike : (u : TagUnit) (k : Identity) (q : Request) (reach : ℕ) → Judges (byId u q reach) (byId (withWaiting k u) q reach)
-unfolding byId readParameters readState setKey mayReplace clearKey cleared recoverKey ring readSound protect unprotect usedKey signedByOwner shownIdentifier stands currentScalar currentIdentifier
-by-id-alike u k q reach = search (alike, rung-alike) depth 24
+unfolding byId clearKey cleared recoverKey ring readSound protect unprotect signedByOwner
+by-id-alike u k q reach = search (alike, rung-alike, parameters-alike u k q, state-alike u k q, set-alike u k q) depth 24
 
 judged-alike : (u : TagUnit) (k : Identity) (w : List ℕ) (reach : ℕ) → Judges (judged u w reach) (judged (withWaiting k u) w reach)
 unfolding judged

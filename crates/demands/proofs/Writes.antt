@@ -1,7 +1,7 @@
 -- A write keeps a unit well formed: each request that is accepted makes only changes whose conditions its tests have shown. The requests are
 -- judged on a unit that is well formed; 0x05 and 0x07 need its identity key.
 use Prim.Native.Nat.{ℕ, _≤_, _<_}
-use mathlib.Core.Path.{_≡_, refl}
+use mathlib.Core.Path.{_≡_, refl, _∙_}
 use mathlib.Core.Bool.{Bool, true, false, cond, not, _||_}
 use mathlib.Core.List.{List}
 use mathlib.Core.Option.{Option, some, none}
@@ -12,6 +12,7 @@ use borrow.Author.Tests.{eqb-true, eqb-false, leb-true, le-ltb}
 use Rattle.laws.proofs.Flags.{and-left, and-right, or-rest}
 use Rattle.wire.specs.Signing.{ringKey}
 use Rattle.wire.specs.Shape.{Request, parsed, shapeLegal}
+use Rattle.key_blocks.specs.KeyBlocks.{decryptedKey}
 use Rattle.unit.specs.declared.TagUnit.{TagUnit}
 use Rattle.unit.specs.declared.Settings.{Settings}
 use Rattle.unit.specs.declared.Owner.{Owner}
@@ -27,11 +28,13 @@ use Rattle.unit.proofs.Masks.{inside-below, below-inside}
 use Rattle.unit.proofs.Lines.{RingLines, VolumeLines, lines, held-count, settings-legal}
 use Rattle.unit.proofs.Kept.{fresh-formed, clock-kept, battery-kept, pairing-kept, nonces-kept, spent-kept, owner-kept, waiting-kept, silenced-kept, ring-kept, protection-kept}
 use Rattle.authentication.specs.Judgement.{Judgement, accepts, rejects, lastNonce, tagged, usedKey, onlyIf, signedByOwner, under, concluded}
-use Rattle.provisioning.specs.Provisioning.{readParameters, readState, setKey, clearKey, recoverKey, claimed, awaiting, cleared}
+use Rattle.provisioning.specs.Provisioning.{readParameters, readState, setKey, clearKey, recoverKey, mayReplace, claimed, ownedBy, afterUse, awaiting, cleared}
 use Rattle.ringing.specs.declared.sounding.Decision.{Decision}
 use Rattle.ringing.specs.Ringing.{ring, rung, readSound, skips, ringLegal, ringMask, reached, outOfReach, stopDecision, ringDecision, allOfNone, askedVolume, askedTimeout, heldVolume}
 use Rattle.ringing.specs.Protecting.{protect, unprotect}
 use Rattle.requests.specs.Write.{byId, keyThere, judged, written}
+use Rattle.account_keys.proofs.Order.{followed-owned}
+use Rattle.demands.proofs.KeyUses.{used-among, owner-held-key, claimed-held, after-use}
 use Rattle.demands.proofs.HeldKeys.{first-among, place-below}
 use Rattle.demands.proofs.Choices.{tested}
 
@@ -107,22 +110,30 @@ module _ (u : TagUnit) (w : wellFormed u ≡ true) (q : Request) where
 
   parameters-forms : Forms (readParameters u q)
   unfolding readParameters
-  parameters-forms = search (forms, w)
+  parameters-forms = key-forms (usedKey u q) (λ key found. accepted (after-use u w key (used-among u q key found)))
 
   state-forms : Forms (readState u q)
   unfolding readState
-  state-forms = key-forms (usedKey u q) (λ key found. accepted (owned-formed (u .accounts .owner) key refl (used-held u q key found)))
+  state-forms =
+      key-forms (usedKey u q)
+      (λ key found.
+      let owned = owned-formed (u .accounts .owner) key refl (used-held u q key found) in
+      accepted (after-use (withAccounts (ownedBy key (u .accounts)) u) owned key (rw (claimed-held (u .accounts .owner) key (u .accounts)) (used-among u q key found))))
 
-  awaiting-formed : (identity : List ℕ) → owned (u .accounts .owner) ≡ true → wellFormed (awaiting identity u) ≡ true
-  awaiting-formed identity o = waiting-kept u w identity o
+  awaiting-formed : (identity key : List ℕ) → ownerKey (u .accounts) ≡ some key → owned (u .accounts .owner) ≡ true
+      → wellFormed (awaiting identity (afterUse key u)) ≡ true
+  awaiting-formed identity key k o =
+      waiting-kept (afterUse key u) (after-use u w key (owner-held-key u w key k)) identity
+      (followed-owned (placeOf key (heldKeys (u .accounts))) (u .accounts .owner) ∙ o)
 
   set-forms : Forms (setKey u q)
   unfolding setKey ownerKey
   set-forms =
       key-forms (signedByOwner u q)
       (λ key found.
-      let o = owner-is (u .accounts .owner) (heldKeys (u .accounts)) key (owner-signed u q key found) in
-      search (forms, tested Forms, awaiting-formed))
+      let k = owner-signed u q key found in
+      let o = owner-is (u .accounts .owner) (heldKeys (u .accounts)) key k in
+      tested Forms (mayReplace u q) (λ may. accepted (awaiting-formed (decryptedKey key (q .additional)) key k o)) (λ not. rejected))
 
   cleared-formed : wellFormed (cleared u) ≡ true
   unfolding cleared

@@ -1,6 +1,6 @@
--- What an accepted write did, as far as nonce and keys go: it set a waiting key, it cleared, it recovered, or it left nonce, account keys and
--- both identity keys alone. Each handler is gone through once, check by check.
-use Prim.Native.Nat.{ℕ}
+-- What an accepted write did, as far as nonce and keys go: it set a waiting key, it cleared, it recovered, it used an account key, or it left
+-- nonce, account keys and both identity keys alone. Each handler is gone through once, check by check.
+use Prim.Native.Nat.{ℕ, _≤_, _<_}
 use mathlib.Core.Path.{_≡_, refl, sym, ap, _∙_}
 use mathlib.Core.Bool.{Bool, true, false, cond, _&&_, _||_}
 use mathlib.Core.List.{List}
@@ -15,28 +15,32 @@ use Rattle.key_blocks.specs.KeyBlocks.{decryptedKey, encryptedKey}
 use Rattle.unit.specs.declared.TagUnit.{TagUnit}
 use Rattle.unit.specs.declared.Accounts.{Accounts}
 use Rattle.unit.specs.declared.Owner.{Owner}
-use Rattle.unit.specs.WellFormed.{wellFormed, ownerKey}
+use Rattle.tables.specs.Rows.{among, placeOf}
+use Rattle.unit.specs.WellFormed.{wellFormed, heldKeys, ownerKey}
+use Rattle.unit.proofs.Lines.{lines, held-count}
 use Rattle.unit.specs.Ringable.{inside}
-use Rattle.unit.specs.Change.{spent}
+use Rattle.unit.specs.Change.{spent, withAccounts}
 use Rattle.unit.specs.Outcome.{Outcome, giving, refusing}
+use Rattle.account_keys.specs.Order.{keyUsed}
+use Rattle.account_keys.proofs.Order.{place-found, key-owned}
 use Rattle.authentication.specs.Judgement.{Judgement, accepts, rejects, answered, under, usedKey, signedByOwner, tagged, proves, lastNonce, concluded}
-use Rattle.provisioning.specs.Provisioning.{readParameters, readState, setKey, mayReplace, awaiting, clearKey, cleared, recoverKey, claimed}
+use Rattle.provisioning.specs.Provisioning.{readParameters, readState, setKey, mayReplace, afterUse, ownedBy, awaiting, clearKey, cleared, recoverKey}
 use Rattle.ringing.specs.declared.sounding.Decision.{Decision}
 use Rattle.ringing.specs.Ringing.{skips, ringLegal, ring, rung, readSound}
 use Rattle.ringing.specs.Protecting.{flagOf, protect, unprotect}
 use Rattle.requests.specs.Write.{byId, keyThere, judged, written}
 use Rattle.tag.specs.Calls.{Written, write, own, calls}
-use Rattle.demands.specs.History.{step}
+use Rattle.demands.specs.History.{step, Bytes}
+use Rattle.demands.proofs.KeyUses.{used-among, claimed-held, claimed-lines, claimed-legal, claimed-key, claimed-bytes, first-bytes, held-bytes}
 use Rattle.demands.proofs.Writes.{owner-signed}
 use Rattle.demands.proofs.Guards.{Met, barred, passed, met, not-both}
 
--- the same nonce, table of account keys, key in force and waiting key; and the same owner's key, where there was an owner
+-- the same nonce, account keys, key in force and waiting key
 pub record Alone (u v : TagUnit) : Type 0 where
   pub nonce : v .nonces ≡ u .nonces
-  pub table : v .accounts .keys ≡ u .accounts .keys
+  pub accounts : v .accounts ≡ u .accounts
   pub identity : v .identity ≡ u .identity
   pub waiting : v .waiting ≡ u .waiting
-  pub owner : (key : List ℕ) → ownerKey (u .accounts) ≡ some key → ownerKey (v .accounts) ≡ some key
 
 pub alone : (u : TagUnit) → Alone u u
 alone u = search
@@ -46,15 +50,21 @@ pub record Keyless (id : ℕ) : Type 0 where
   pub notSet : id ≡ 0x02 → ⊥
   pub notRecovered : id ≡ 0x04 → ⊥
 
+-- a key that 0x00 or 0x01 used, and the accounts then
+pub data Uses (u : TagUnit) (q : Request) : Accounts → Type 0 where
+  forParameters : (key : List ℕ) → q .id ≡ 0x00 → usedKey u q ≡ some key → Uses u q (keyUsed key (u .accounts))
+  forState : (key : List ℕ) → q .id ≡ 0x01 → usedKey u q ≡ some key → Uses u q (keyUsed key (ownedBy key (u .accounts)))
+
 -- What the request q did with the unit u that it was judged on
 pub data Did (u : TagUnit) (q : Request) : Judgement → Type 0 where
   refused : (n : ℕ) → Did u q (rejects n)
   set : {answer : List ℕ} (key : List ℕ) → q .id ≡ 0x02 → ownerKey (u .accounts) ≡ some key
-      → Did u q (accepts (awaiting (decryptedKey key (q .additional)) u) answer)
+      → Did u q (accepts (awaiting (decryptedKey key (q .additional)) (afterUse key u)) answer)
   clear : {answer : List ℕ} → q .id ≡ 0x03 → Did u q (accepts (cleared u) answer)
   recovered : (key : List ℕ) → q .id ≡ 0x04 → ownerKey (u .accounts) ≡ some key
       → Did u q (accepts u (answered (recoveryKey (u .identity .bytes)) u q (encryptedKey key (u .identity .bytes))))
-  other : {v : TagUnit} {answer : List ℕ} → Keyless (q .id) → Alone u v → Did u q (accepts v answer)
+  used : {a : Accounts} {answer : List ℕ} → Keyless (q .id) → Uses u q a → Did u q (accepts (withAccounts a u) answer)
+  other : {v : TagUnit} {answer : List ℕ} → 0x05 ≤ q .id → Alone u v → Did u q (accepts v answer)
 
 -- What holds on both sides of a choice holds of the choice
 pub choose : {A : Type 0} (P : A → Type 0) (b : Bool) {x y : A} → (b ≡ true → P x) → (b ≡ false → P y) → P (cond b x y)
@@ -88,40 +98,20 @@ module _ (u : TagUnit) (q : Request) where
       checked (tagged (recoveryKey (u .identity .bytes)) (lastNonce u) q) 0x80
       (checked (ltb 0 (u .consent) || u .pairing) 0x82 (recovered key e o)))
 
-  -- the accounts of 0x01
-  claimed-table : (o : Owner) (key : List ℕ) (a : Accounts) → claimed o key a .keys ≡ a .keys
-  claimed-table Owner.Nobody key a = refl
-  claimed-table (Owner.Place p) key a = refl
-
-  claimed-owner : (o : Owner) (used : List ℕ) (a : Accounts) → a .owner ≡ o → (key : List ℕ) → ownerKey a ≡ some key
-      → ownerKey (claimed o used a) ≡ some key
-  unfolding ownerKey
-  claimed-owner Owner.Nobody used a e key h = let none-there : none ≡ some key = rw e at h in cc
-  claimed-owner (Owner.Place p) used a e key h = h
-
   module _ (k : Keyless (q .id)) where
-    did-parameters : Rules (readParameters u q)
+    did-parameters : q .id ≡ 0x00 → Rules (readParameters u q)
     unfolding readParameters
-    did-parameters = with-key (usedKey u q) _ (λ key e. other k (alone u))
+    did-parameters id = with-key (usedKey u q) _ (λ key e. used k (forParameters key id e))
 
-    did-state : Rules (readState u q)
+    did-state : q .id ≡ 0x01 → Rules (readState u q)
     unfolding readState
-    did-state =
-        with-key (usedKey u q) _
-        (λ key e.
-        other k
-        (record {
-          nonce = refl;
-          table = claimed-table (u .accounts .owner) key (u .accounts);
-          identity = refl;
-          waiting = refl;
-          owner = claimed-owner (u .accounts .owner) key (u .accounts) refl;
-        }))
+    did-state id = with-key (usedKey u q) _ (λ key e. used k (forState key id e))
 
+  module _ (k : 0x05 ≤ q .id) where
     did-rung : (d : Decision) (volume left : ℕ) → Rules (rung d u volume left)
     unfolding rung
-    did-rung (Decision.Started mask) volume left = other k (record { nonce = refl; table = refl; identity = refl; waiting = refl; owner = λ key e. e })
-    did-rung Decision.Stopped volume left = other k (record { nonce = refl; table = refl; identity = refl; waiting = refl; owner = λ key e. e })
+    did-rung (Decision.Started mask) volume left = other k (record { nonce = refl; accounts = refl; identity = refl; waiting = refl })
+    did-rung Decision.Stopped volume left = other k (record { nonce = refl; accounts = refl; identity = refl; waiting = refl })
     did-rung Decision.Failed volume left = other k (alone u)
 
     did-ring : (reach : ℕ) → Rules (ring u q reach)
@@ -150,8 +140,8 @@ module _ (u : TagUnit) (q : Request) where
   by-id : (reach : ℕ) → Rules (byId u q reach)
   unfolding byId
   by-id reach =
-      choose Rules _ (λ e. let n = eqb-true (q .id) 0 e in did-parameters (omega arith)) (λ _.
-      choose Rules _ (λ e. let n = eqb-true (q .id) 1 e in did-state (omega arith)) (λ _.
+      choose Rules _ (λ e. let n = eqb-true (q .id) 0 e in did-parameters (omega arith) n) (λ _.
+      choose Rules _ (λ e. let n = eqb-true (q .id) 1 e in did-state (omega arith) n) (λ _.
       choose Rules _ (λ e. did-set (eqb-true (q .id) 2 e)) (λ _.
       choose Rules _ (λ e. did-clear (eqb-true (q .id) 3 e)) (λ _.
       choose Rules _ (λ e. did-recover (eqb-true (q .id) 4 e)) (λ _.
@@ -174,6 +164,7 @@ module _ (u : TagUnit) (w : Written) where
   concluded-so s l (set key e o) = served s l (set key e o)
   concluded-so s l (clear e) = served s l (clear e)
   concluded-so s l (recovered key e o) = served s l (recovered key e o)
+  concluded-so s l (used k a) = served s l (used k a)
   concluded-so s l (other k a) = served s l (other k a)
 
   pub ends-written : Ended u w (written u (w .bytes) (w .reach))
@@ -213,3 +204,29 @@ module _ (w : Written) (room : ℕ) (u : TagUnit) (answer : List ℕ) where
       go : Met (calls (write w) room) u → Served u w room answer
       go (barred n e bars) = absurd (not-both (calls (write w) room) u e (answer, r))
       go (passed fits formed e) = from-written formed e (ends-written u w) (sym (ap (λ (o : Outcome). o .result) e) ∙ r)
+
+-- A key that 0x00 or 0x01 used
+module _ {u : TagUnit} {q : Request} where
+  pub uses-bytes : {a : Accounts} → Uses u q a → Bytes (u .accounts .keys) → Bytes (a .keys)
+  uses-bytes (forParameters key id e) b =
+      first-bytes (placeOf key (heldKeys (u .accounts))) key (u .accounts .keys) (held-bytes (u .accounts) key (used-among u q key e) b) b
+  uses-bytes (forState key id e) b =
+      let is = claimed-bytes (u .accounts .owner) key (u .accounts) in
+      first-bytes (placeOf key (heldKeys (ownedBy key (u .accounts)))) key (ownedBy key (u .accounts) .keys) (held-bytes (u .accounts) key (used-among u q key e) b) (rw is b)
+
+module _ (u : TagUnit) (q : Request) (w : wellFormed u ≡ true) where
+  pub within : (key : List ℕ) → usedKey u q ≡ some key → placeOf key (heldKeys (u .accounts)) < u .accounts .count
+  within key e = omega (arith, place-found key (heldKeys (u .accounts)) (used-among u q key e) .0, held-count (u .accounts))
+
+  pub owned-held : (key : List ℕ) → usedKey u q ≡ some key → among key (heldKeys (ownedBy key (u .accounts))) ≡ true
+  owned-held key e = rw (claimed-held (u .accounts .owner) key (u .accounts)) (used-among u q key e)
+
+  pub uses-key : {a : Accounts} → Uses u q a → (key : List ℕ) → ownerKey (u .accounts) ≡ some key → ownerKey a ≡ some key
+  uses-key (forParameters key id e) owner h =
+      let l = lines u w in
+      key-owned (u .accounts) (l .accounts) key (used-among u q key e) (l .owner) ∙ h
+  uses-key (forState key id e) owner h =
+      let l = lines u w in
+      key-owned (ownedBy key (u .accounts)) (claimed-lines (u .accounts .owner) key (u .accounts) (l .accounts)) key (owned-held key e)
+      (claimed-legal (u .accounts .owner) key (u .accounts) (within key e) (l .owner))
+      ∙ claimed-key (u .accounts .owner) key (u .accounts) refl owner h

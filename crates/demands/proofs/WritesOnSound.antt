@@ -112,7 +112,9 @@ module _ (u : TagUnit) (w : wellFormed u ≡ true) (q : Request) (reach : ℕ) w
   unfolding readParameters signed
   parameters-judged e =
       with-key (usedKey u q) _
-      (λ key f. granted (by-account key f (λ p below. rw e (parameters p below))) (apart refl (λ (z : q .id ≡ 0x05). omega arith) (unchanged u)))
+      (λ key f.
+      granted (by-account key f (λ p below. rw e (parameters p below)))
+      (apart refl (λ (z : q .id ≡ 0x05). omega arith) (record { sound = refl; ringNonce = refl; identity = refl; consent = refl })))
 
   state-judged : q .id ≡ 0x01 → J (readState u q)
   unfolding readState signed

@@ -6,7 +6,7 @@ use mathlib.Core.Path.{_≡_}
 use mathlib.Core.Bool.{true, false, cond, not, _&&_}
 use mathlib.Core.List.{List, [], _∷_, _++_}
 use mathlib.Core.Logic.{_⊎_}
-use lib.Dec.{eqb}
+use lib.Dec.{eqb, ltb}
 use lib.IntN.{ℤ, pos, negsuc}
 use lib.ListN.{length, take, drop, getD, replicate}
 use Rattle.laws.specs.Answer.{gives}
@@ -55,7 +55,7 @@ module _ (u : TagUnit) where
   abbrev pub keyProofOf : List ℕ
   keyProofOf = proofFrom (u .identity .bytes) (u .nonces .newest)
 
--- "the first held key whose tag matches, in order of arrival": the key at place p, and no earlier one, makes this tag for this write
+-- "the first held key whose tag matches", "most recently used first": the key at place p, and no earlier one, makes this tag for this write
 abbrev pub First : TagUnit → ℕ → ℕ → Type 0
 First u id p =
     (p < u .accounts .count)
@@ -93,11 +93,32 @@ ownerThen (Owner.Place q) p = Owner.Place q
 abbrev pub standing : TagUnit → List ℕ
 standing u = cond (u .identity .held && not (eqb (rOf u) 0)) (identifierOf u) []
 
+-- "The order of trial becomes most recently used first": the key at place p comes first, those before it stand one further on, and the others
+-- where they stood; the owner's place is that of its key
+abbrev pub broughtFirst : TagUnit → ℕ → List ℕ
+broughtFirst u p = keyAtPlace u p ++ (take (16 * p) (u .accounts .keys) ++ drop (16 * p + 16) (u .accounts .keys))
+
+abbrev pub placeOnceFirst : ℕ → ℕ → ℕ
+placeOnceFirst p q = cond (eqb q p) 0 (cond (ltb q p) (q + 1) q)
+
+abbrev pub ownerOnceFirst : ℕ → Owner → Owner
+ownerOnceFirst p Owner.Nobody = Owner.Nobody
+ownerOnceFirst p (Owner.Place q) = Owner.Place (placeOnceFirst p q)
+
+-- "least recently used in an accepted 0x00, 0x01 or 0x02": what 0x00 leaves
+pub record KeyUsed (p : ℕ) (u v : TagUnit) : Type 0 where
+  pub nonceSpent : NonceSpent u v
+  pub count : v .accounts .count ≡ u .accounts .count
+  pub keys : v .accounts .keys ≡ broughtFirst u p
+  pub owner : v .accounts .owner ≡ ownerOnceFirst p (u .accounts .owner)
+  pub rest : AllBut (nonce ∷ accounts ∷ []) u v
+
+-- and 0x01
 pub record OwnerKnown (p : ℕ) (u v : TagUnit) : Type 0 where
   pub nonceSpent : NonceSpent u v
   pub count : v .accounts .count ≡ u .accounts .count
-  pub keys : v .accounts .keys ≡ u .accounts .keys
-  pub owner : v .accounts .owner ≡ ownerThen (u .accounts .owner) p
+  pub keys : v .accounts .keys ≡ broughtFirst u p
+  pub owner : v .accounts .owner ≡ ownerOnceFirst p (ownerThen (u .accounts .owner) p)
   pub rest : AllBut (nonce ∷ accounts ∷ []) u v
 
 -- silent, with no nonce of a ring. A record with "room for absent things not zero, is not well formed"
@@ -109,17 +130,20 @@ abbrev pub NoneWaits : TagUnit → Type 0
 NoneWaits v = v .waiting ≡ record { held = false; bytes = replicate 32 0 }
 
 -- "The first 32 data bytes, two blocks decrypted with the owner key", are the key that now waits: "Until then the accepted key waits"; it
--- "replaces the waiting one". The key in force and the sound stay
+-- "replaces the waiting one". The key in force and the sound stay; the owner's account key was used
 pub record Awaits (key C : List ℕ) (u v : TagUnit) : Type 0 where
   pub nonceSpent : NonceSpent u v
   pub waitingIs : v .waiting ≡ record { held = true; bytes = InvAES128 key (take 16 C) ++ InvAES128 key (take 16 (drop 16 C)) }
-  pub rest : AllBut (nonce ∷ waiting ∷ []) u v
+  pub count : v .accounts .count ≡ u .accounts .count
+  pub keys : (p : ℕ) → u .accounts .owner ≡ Owner.Place p → v .accounts .keys ≡ broughtFirst u p
+  pub ownerFirst : v .accounts .owner ≡ Owner.Place 0
+  pub rest : AllBut (nonce ∷ accounts ∷ waiting ∷ []) u v
 
 -- "The unit becomes fresh, keeping settings, clock, last nonce (spent), battery and pairing (house)"; "Fresh: no keys, nonce, sound,
 -- protection, consent, pairing .."; "0x03 drops both", the key in force and the waiting one
 pub record Cleared (u v : TagUnit) : Type 0 where
   pub nonceSpent : NonceSpent u v
-  pub keyless : v .accounts ≡ record { count = 0; owner = Owner.Nobody; keys = replicate 80 0 }
+  pub keyless : v .accounts ≡ record { count = 0; owner = Owner.Nobody; keys = replicate 160 0 }
   pub unset : v .identity ≡ record { held = false; bytes = replicate 32 0 }
   pub noneWaits : NoneWaits v
   pub silent : Silent v
@@ -224,7 +248,7 @@ pub record Accepted : Type 0 where
   pub parametersRead : (u : TagUnit) (reach room p : ℕ) → Open u reach room → First u 0x00 p
       → Serves (sends (sent u 0x00 (keyAtPlace u p) []) reach room) u
       (answer u 0x00 (keyAtPlace u p) (AES128 (keyAtPlace u p) (parameterBytes u)))
-      (OnlySpends u)
+      (KeyUsed p u)
   -- "0x01 data: bit 0x01 identity key held, bit 0x02 the key used is owner; then the identifier"
   pub stateRead : (u : TagUnit) (reach room p : ℕ) → Open u reach room → First u 0x01 p
       → Serves (sends (sent u 0x01 (keyAtPlace u p) []) reach room) u

@@ -27,6 +27,9 @@
 -- And of a random source that is stuck: "Refusal 3 must be given when the lent nonce equals any of the last 16 issued, live or spent, a clear
 -- (0x03) included. The seventeenth back is accepted."
 --
+-- And of ten account keys: "when an eleventh comes, drop the one least recently used in an accepted 0x00, 0x01 or 0x02, but never the owner.
+-- Arrival counts as use; adding a key already held doesn't."
+--
 -- And of the number of tenths that it may sleep: "Show that any shorter sleep, cut as you like, gives no notification, the same frame or frame
 -- refusal, and the same yes or no on consent; and that at the named tenth at least one of those four things happens."
 use Rattle.demands.specs.Ends.{Demand1}
@@ -39,6 +42,7 @@ use Rattle.demands.specs.Events.{Events}
 use Rattle.demands.specs.FrameRead.{FrameRead}
 use Rattle.demands.specs.Nonces.{Demand2Nonces}
 use Rattle.demands.specs.NonceRepeats.{NonceRepeats}
+use Rattle.demands.specs.KeysByUse.{KeysByUse}
 use Rattle.demands.specs.Recovery.{Demand2Recovery}
 use Rattle.demands.specs.RecoveryExample.{RecoveryExample}
 use Rattle.demands.specs.WaitingKey.{WaitingKey}
@@ -55,14 +59,15 @@ pub record Demands : Type 0 where
   pub formed : Formed
   pub refusals : RefusalOrder
   pub wellFormed : WellFormedExactly
-  -- 2: what each call gives and leaves, and which writes are refused; nonces; recovery, with an example of it; the key that waits; what is in reach;
-  -- consent; the paper's examples
+  -- 2: what each call gives and leaves, and which writes are refused; nonces; keys by use; recovery, with an example of it; the key that waits; what is in
+  -- reach; consent; the paper's examples
   pub accepted : Accepted
   pub refused : Refused
   pub events : Events
   pub framesRead : FrameRead
   pub nonces : Demand2Nonces
   pub nonceRepeats : NonceRepeats
+  pub keysByUse : KeysByUse
   pub recovered : Demand2Recovery
   pub recoveredOnce : RecoveryExample
   pub waitingKey : WaitingKey

@@ -19,7 +19,7 @@ use Rattle.tag.specs.Calls.{newUnit, Call, button, accountKey, disconnect, fram
 use Rattle.demands.specs.History.{step}
 use Rattle.demands.specs.Spelled.{keyAtPlace, AllBut, Part, clock, accounts, identity, waiting, sound, ringNonce, consent}
 use Rattle.demands.specs.EphemeralIdentifier.{rOf, identifierOf, cutR}
-use Rattle.demands.specs.Accepted.{Serves, NoneWaits, Silent, stopNotice}
+use Rattle.demands.specs.Accepted.{ownerOnceFirst, Serves, NoneWaits, Silent, stopNotice}
 
 -- "calibrated power, a whole number from -100 to 20": negsuc n is -(n + 1)
 abbrev pub PowerWithin : ℤ → Type 0
@@ -32,7 +32,7 @@ pub record Fresh (power : ℤ) (components selectable : ℕ) (v : TagUnit) : Typ
   pub settingsAre : v .settings ≡ record { power = power; components = components; selectable = selectable }
   pub clockIs : v .clock ≡ record { seconds = 0; tenth = 0 }
   pub noNonces : v .nonces ≡ record { count = 0; live = false; newest = replicate 8 0; earlier = replicate 120 0 }
-  pub noAccounts : v .accounts ≡ record { count = 0; owner = Owner.Nobody; keys = replicate 80 0 }
+  pub noAccounts : v .accounts ≡ record { count = 0; owner = Owner.Nobody; keys = replicate 160 0 }
   pub noIdentity : v .identity ≡ record { held = false; bytes = replicate 32 0 }
   pub noneWaits : NoneWaits v
   pub silent : Silent v
@@ -60,11 +60,22 @@ pub record Charged (level : ℕ) (u v : TagUnit) : Type 0 where
   pub rest : AllBut (Part.battery ∷ []) u v
 
 -- a key of 16 bytes behind those held
+-- a new key takes the room of place p: it comes first, those before p stand one further on, and the owner's place is that of its key
+pub record Arrives (key : List ℕ) (p : ℕ) (u v : TagUnit) : Type 0 where
+  pub owner : v .accounts .owner ≡ ownerOnceFirst p (u .accounts .owner)
+  pub keys : v .accounts .keys ≡ key ++ (take (16 * p) (u .accounts .keys) ++ drop (16 * p + 16) (u .accounts .keys))
+  pub rest : AllBut (accounts ∷ []) u v
+
+-- with room it takes the next place
 pub record Keeps (key : List ℕ) (u v : TagUnit) : Type 0 where
   pub count : v .accounts .count ≡ u .accounts .count + 1
-  pub owner : v .accounts .owner ≡ u .accounts .owner
-  pub keys : v .accounts .keys ≡ take (16 * u .accounts .count) (u .accounts .keys) ++ (key ++ drop (16 * u .accounts .count + 16) (u .accounts .keys))
-  pub rest : AllBut (accounts ∷ []) u v
+  pub first : Arrives key (u .accounts .count) u v
+
+-- without, that of the last, or of the one before it where the last is the owner's
+pub record Replaces (key : List ℕ) (u v : TagUnit) : Type 0 where
+  pub count : v .accounts .count ≡ 10
+  pub last : (u .accounts .owner ≡ Owner.Place 9 → ⊥) → Arrives key 9 u v
+  pub notTheOwner : u .accounts .owner ≡ Owner.Place 9 → Arrives key 8 u v
 
 -- The new key "takes effect right after the connection ends"; "Sound ends .. at a disconnect that brings a waiting key in"
 pub record BroughtIn (u v : TagUnit) : Type 0 where
@@ -119,10 +130,14 @@ pub record Events : Type 0 where
   -- "Adding a key already held succeeds and changes nothing, even when full"
   pub keyHeld : (u : TagUnit) (room p : ℕ) (key : List ℕ) → wellFormed u ≡ true → length key ≡ 16 → p < u .accounts .count → keyAtPlace u p ≡ key
       → Serves (calls (accountKey key) room) u [] (Same u)
-  -- "Up to 5 account keys of 16 bytes, no two equal, in order of arrival"
-  pub keyAdded : (u : TagUnit) (room : ℕ) (key : List ℕ) → wellFormed u ≡ true → length key ≡ 16 → u .accounts .count < 5
+  -- "Arrival counts as use"
+  pub keyAdded : (u : TagUnit) (room : ℕ) (key : List ℕ) → wellFormed u ≡ true → length key ≡ 16 → u .accounts .count < 10
       → ((p : ℕ) → p < u .accounts .count → keyAtPlace u p ≡ key → ⊥)
       → Serves (calls (accountKey key) room) u [] (Keeps key u)
+  -- "when an eleventh comes, drop the one least recently used .., but never the owner"
+  pub keyReplaced : (u : TagUnit) (room : ℕ) (key : List ℕ) → wellFormed u ≡ true → length key ≡ 16 → u .accounts .count ≡ 10
+      → ((p : ℕ) → p < 10 → keyAtPlace u p ≡ key → ⊥)
+      → Serves (calls (accountKey key) room) u [] (Replaces key u)
   -- without answer bytes, and without a notice; "any other disconnect changes nothing"
   pub keyBroughtIn : (u : TagUnit) (room : ℕ) → wellFormed u ≡ true → u .waiting .held ≡ true → Serves (calls disconnect room) u [] (BroughtIn u)
   pub nothingBroughtIn : (u : TagUnit) (room : ℕ) → wellFormed u ≡ true → u .waiting .held ≡ false → Serves (calls disconnect room) u [] (Same u)

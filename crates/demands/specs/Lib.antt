@@ -10,6 +10,7 @@ pub mod RefusalOrder
 pub mod Events
 pub mod Nonces
 pub mod NonceRepeats
+pub mod KeysByUse
 pub mod Among
 pub mod Recovery
 pub mod Time

@@ -38,9 +38,9 @@ pub record RecordLines (u : TagUnit) : Type 0 where
   pub selectable : u .settings .selectable ≤ 1
   -- "Clock: seconds as 32 bits, and a tenth 0 to 9."
   pub tenth : u .clock .tenth ≤ 9
-  -- "Up to 5 account keys of 16 bytes, no two equal, in order of arrival"
-  pub keysRoom : length (u .accounts .keys) ≡ 80
-  pub keysHeld : u .accounts .count ≤ 5
+  -- "account keys of 16 bytes, no two equal"; "Raise the table from 5 keys to 10"
+  pub keysRoom : length (u .accounts .keys) ≡ 160
+  pub keysHeld : u .accounts .count ≤ 10
   pub noTwoEqual : (i j : ℕ) → i < j → j < u .accounts .count → keyAtPlace u i ≡ keyAtPlace u j → ⊥
   pub noOtherKeys : (i : ℕ) → 16 * u .accounts .count ≤ i → getD (u .accounts .keys) i 0 ≡ 0
   -- "perhaps an owner among them": "an owner that isn't held" is not well formed

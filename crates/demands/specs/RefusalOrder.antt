@@ -13,7 +13,7 @@ use Rattle.unit.specs.declared.TagUnit.{TagUnit}
 use Rattle.unit.specs.WellFormed.{wellFormed}
 use Rattle.tag.specs.Calls.{newUnit, Written, read, write, button, battery, accountKey, frame, Act, calls, waits}
 use Rattle.demands.specs.History.{step}
-use Rattle.demands.specs.Spelled.{bit, NoBitOutside, keyAtPlace, nonceAtPlace, OnlySpends}
+use Rattle.demands.specs.Spelled.{bit, NoBitOutside, nonceAtPlace, OnlySpends}
 use Rattle.demands.specs.Refused.{Reason}
 use Rattle.demands.specs.EphemeralIdentifier.{rOf}
 
@@ -36,10 +36,8 @@ pub data Own (u : TagUnit) : Act → ℕ → Type 0 where
   ofWrite : {w : Written} {room n : ℕ} → NoBitOutside (u .settings .components) (w .reach) → Reason u (w .bytes) n → Own u (calls (write w) room) n
   -- 1: "settings or battery out of range"
   batteryLevel : {level room : ℕ} → 3 < level → Own u (calls (battery level) room) 1
-  -- 4: "account key not 16 bytes, or a sixth new key"; "Adding a key already held succeeds and changes nothing, even when full."
+  -- 4: "account key not 16 bytes"; "Refusal 4 then remains only for a wrong size."
   keyLength : {key : List ℕ} {room : ℕ} → (length key ≡ 16 → ⊥) → Own u (calls (accountKey key) room) 4
-  sixthKey : {key : List ℕ} {room : ℕ} → u .accounts .count ≡ 5 → ((p : ℕ) → p < 5 → keyAtPlace u p ≡ key → ⊥)
-      → Own u (calls (accountKey key) room) 4
   -- 5: "a frame is refused with 5, only with no key or if r is 0 before the cut"
   frameWithoutKey : {room : ℕ} → u .identity .held ≡ false → Own u (calls frame room) 5
   frameOfZero : {room : ℕ} → rOf u ≡ 0 → Own u (calls frame room) 5

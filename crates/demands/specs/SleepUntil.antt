@@ -74,7 +74,7 @@ abbrev pub ringingAt : ℕ → ℕ → ℕ → ℕ → TagUnit
 ringingAt seconds tenth consent left =
     withSound (Sound.Ringing 1 0 left) (replicate 8 3)
     (withIdentity (record { held = true; bytes = replicate 32 2 })
-    (withAccounts (record { count = 1; owner = Owner.Place 0; keys = replicate 16 1 ++ replicate 64 0 }) (unitAt seconds tenth consent)))
+    (withAccounts (record { count = 1; owner = Owner.Place 0; keys = replicate 16 1 ++ replicate 144 0 }) (unitAt seconds tenth consent)))
 
 pub record Row : Type 0 where
   pub unit : TagUnit

@@ -3,11 +3,11 @@ use Prim.Native.Nat.{ℕ}
 use mathlib.Core.Path.{_≡_}
 use mathlib.Core.Bool.{Bool, true, false, cond, not}
 use mathlib.Core.List.{List, []}
-use lib.Dec.{eqb, leb, ltb}
+use lib.Dec.{eqb, leb}
 use lib.ListN.{length}
 use native.Mathlib.Omega.{arith}
-use Rattle.laws.specs.Answer.{gives}
-use Rattle.sizes.specs.Sizes.{accountKeySize, mostKeys, highestBattery}
+use Rattle.laws.specs.Answer.{gives, refuses}
+use Rattle.sizes.specs.Sizes.{accountKeySize, highestBattery}
 use Rattle.tables.specs.Rows.{among}
 use Rattle.unit.specs.WellFormed.{wellFormed, heldKeys}
 use Rattle.unit.specs.declared.TagUnit.{TagUnit}
@@ -37,8 +37,7 @@ own-quiet (pairing on) u h = given
 own-quiet (battery level) u h = either (leb level highestBattery) given (refused 1 u)
 own-quiet (accountKey k) u h =
     either (not (eqb (length k) accountKeySize)) (refused 4 u)
-    (either (among k (heldKeys (u .accounts))) given
-    (either (ltb (u .accounts .count) mostKeys) given (refused 4 u)))
+    (either (among k (heldKeys (u .accounts))) given given)
 own-quiet disconnect u h = given
 own-quiet frame u h = let z : _≡_ {A = ℕ} 0 1 = cc in absurd (omega arith)
 

@@ -12,7 +12,7 @@ use lib.ListN.{length, drop, length-append}
 use borrow.Author.Tests.{eqb-true, eqb-false}
 use Rattle.laws.specs.Answer.{Result, gives, refuses, lentAfter}
 use Rattle.laws.proofs.Flags.{true-or-false, clash}
-use Rattle.sizes.specs.Sizes.{answerRoom, accountKeySize, mostKeys, highestBattery}
+use Rattle.sizes.specs.Sizes.{answerRoom, accountKeySize, highestBattery}
 use Rattle.tables.specs.Rows.{among}
 use Rattle.primitive_calls.specs.declared.Ending.{Ending}
 use Rattle.primitive_calls.specs.Calls.{orRefusal, endNumber, numberOf, Ends as Digests}
@@ -113,7 +113,7 @@ own-untimed (pairing on) u = untimed
 own-untimed (battery level) u = either (leb level highestBattery) untimed untimed
 own-untimed (accountKey key) u =
     either (not (eqb (length key) accountKeySize)) untimed
-    (either (among key (heldKeys (u .accounts))) untimed (either (ltb (u .accounts .count) mostKeys) untimed untimed))
+    (either (among key (heldKeys (u .accounts))) untimed untimed)
 own-untimed disconnect u = untimed
 own-untimed frame u = either (stands u) untimed untimed
 

@@ -27,6 +27,7 @@ use Rattle.unit.specs.declared.Accounts.{Accounts}
 use Rattle.unit.specs.declared.Owner.{Owner}
 use Rattle.unit.proofs.Lines.{accounts-lines, held-count}
 use Rattle.authentication.specs.Judgement.{accepts, notAuthenticated, noConsent, lastNonce, tagged, proves, answered, usedKey, signedByOwner}
+use Rattle.account_keys.specs.Order.{keyUsed}
 use Rattle.provisioning.specs.Provisioning.{parameters, readParameters, claimed, ownedBy, isKey, stateBits, readState, mayReplace, awaiting, setKey, cleared, clearKey, recoverKey}
 
 -- Whether 0x02 may set the key
@@ -111,10 +112,11 @@ module _ (u : TagUnit) (q : Request) where
   unfolding readParameters
   parameters-nowhere e = rw e
 
-  pub parameters-read : {key used block plain : List ℕ} → usedKey u q ≡ some used → key ≡ used
-      → plain ≡ parameters (u .settings) (u .clock .seconds) → block ≡ AES128 key plain → readParameters u q ≡ accepts u (answered key u q block)
+  pub parameters-read : {key used block plain : List ℕ} {after : Accounts} → usedKey u q ≡ some used → key ≡ used
+      → plain ≡ parameters (u .settings) (u .clock .seconds) → block ≡ AES128 key plain → after ≡ keyUsed used (u .accounts)
+      → readParameters u q ≡ accepts (withAccounts after u) (answered key u q block)
   unfolding readParameters
-  parameters-read e k p b = rw (e, b, p, k)
+  parameters-read e k p b a = rw (e, a, b, p, k)
 
   pub state-nowhere : usedKey u q ≡ none → readState u q ≡ notAuthenticated
   unfolding readState
@@ -128,10 +130,11 @@ module _ (u : TagUnit) (q : Request) where
   unfolding setKey
   set-unproved e p = rw (e, p)
 
-  pub key-set : {key used identity : List ℕ} {after : TagUnit} → signedByOwner u q ≡ some used → key ≡ used → mayReplace u q ≡ true
-      → identity ≡ decryptedKey key (q .additional) → after ≡ awaiting identity u → setKey u q ≡ accepts after (answered key u q [])
+  pub key-set : {key used identity : List ℕ} {after : TagUnit} {keys : Accounts} → signedByOwner u q ≡ some used → key ≡ used → mayReplace u q ≡ true
+      → identity ≡ decryptedKey key (q .additional) → after ≡ awaiting identity u → keys ≡ keyUsed used (u .accounts)
+      → setKey u q ≡ accepts (withAccounts keys after) (answered key u q [])
   unfolding setKey
-  key-set e k p d a = rw (e, p, a, d, k)
+  key-set e k p d a s = rw (e, p, a, s, d, k)
 
   pub clear-nowhere : signedByOwner u q ≡ none → clearKey u q ≡ notAuthenticated
   unfolding clearKey
@@ -167,16 +170,19 @@ module _ (u : TagUnit) (q : Request) where
       key-recovered p k d = rw (e, t, p, d, k)
 
 -- 0x01: the accounts after it, the bits and what is shown
-pub state-read : (u : TagUnit) (q : Request) (place : ℕ) {key shown : List ℕ} {owned : Accounts} {owner : Bool} {bits : ℕ}
+pub state-read : (u : TagUnit) (q : Request) (place : ℕ) {key shown : List ℕ} {owned used : Accounts} {owner : Bool} {bits : ℕ}
     → usedKey u q ≡ some (getD (heldKeys (u .accounts)) place []) → key ≡ getD (heldKeys (u .accounts)) place []
     → owned ≡ ownedBy (getD (heldKeys (u .accounts)) place []) (u .accounts)
     → owner ≡ isKey (ownerKey owned) (getD (heldKeys owned) place []) → bits ≡ stateBits (u .identity .held) owner
-    → shown ≡ shownIdentifier u → readState u q ≡ accepts (withAccounts owned u) (answered key u q (bits ∷ shown))
+    → shown ≡ shownIdentifier u → used ≡ keyUsed (getD (heldKeys owned) place []) owned
+    → readState u q ≡ accepts (withAccounts used u) (answered key u q (bits ∷ shown))
 unfolding readState
-state-read u q place {key} {shown} {owned} {owner} {bits} e k o is b s =
+state-read u q place {key} {shown} {owned} {used} {owner} {bits} e k o is b s a =
     let whose : owner ≡ isKey (ownerKey owned) (getD (heldKeys (u .accounts)) place [])
     = is ∙ ap (λ (l : List (List ℕ)). isKey (ownerKey owned) (getD l place [])) (owned-held (u .accounts) place o) in
-    rw (e, k, b, whose, s, o)
+    let first : used ≡ keyUsed (getD (heldKeys (u .accounts)) place []) owned
+    = a ∙ ap (λ (l : List (List ℕ)). keyUsed (getD l place []) owned) (owned-held (u .accounts) place o) in
+    rw (e, k, b, whose, s, first, o)
 
 module _ (u : TagUnit) {some : Bool} {r id : List ℕ} (c : Current u some r id) where
   pub shown-all : some ≡ true → id ≡ shownIdentifier u

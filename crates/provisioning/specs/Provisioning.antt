@@ -21,6 +21,7 @@ use Rattle.unit.specs.declared.Owner.{Owner}
 use Rattle.unit.specs.WellFormed.{heldKeys, ownerKey}
 use Rattle.standing.specs.Standing.{shownIdentifier}
 use Rattle.unit.specs.Change.{fresh, withClock, withNonces, withAccounts, withOwner, withWaiting, identityKey, withBattery, withPairing, keyed, keyInForce}
+use Rattle.account_keys.specs.Order.{keyUsed}
 use Rattle.authentication.specs.Judgement.{Judgement, accepts, notAuthenticated, noConsent, unless, under, lastNonce, tagged, proves, answered, usedKey, signedByOwner}
 
 -- "power as one signed byte, two's complement" (negsuc n is -(n + 1))
@@ -37,10 +38,15 @@ unfoldable pub parameters : Settings → ℕ → List ℕ
 parameters s seconds =
     wireByte (s .power) ∷ bigEndian 4 seconds ++ (curve ∷ s .components ∷ s .selectable ∷ replicate 8 0)
 
+-- "least recently used in an accepted 0x00, 0x01 or 0x02": each of them uses a key
+abbrev pub afterUse : List ℕ → TagUnit → TagUnit
+afterUse key u = withAccounts (keyUsed key (u .accounts)) u
+
 -- "0x00, 0x01: any account key"; "encrypted by the account key used"
 unfoldable pub readParameters : TagUnit → Request → Judgement
 readParameters u q =
-    under (usedKey u q) (λ key. accepts u (answered key u q (AES128 key (parameters (u .settings) (u .clock .seconds)))))
+    under (usedKey u q)
+    (λ key. accepts (afterUse key u) (answered key u q (AES128 key (parameters (u .settings) (u .clock .seconds)))))
 
 -- 0x01: "with no owner makes that key the owner (house), and its answer already shows it as owner"
 abbrev pub claimed : Owner → List ℕ → Accounts → Accounts
@@ -64,7 +70,7 @@ unfoldable pub readState : TagUnit → Request → Judgement
 readState u q =
     under (usedKey u q)
     (λ key.
-    accepts (withAccounts (ownedBy key (u .accounts)) u)
+    accepts (afterUse key (withAccounts (ownedBy key (u .accounts)) u))
     (answered key u q
     (stateBits (keyed u) (isKey (ownerKey (ownedBy key (u .accounts))) key) ∷ shownIdentifier u)))
 
@@ -83,7 +89,7 @@ setKey u q =
     under (signedByOwner u q)
     (λ key.
     unless (mayReplace u q) notAuthenticated
-    (accepts (awaiting (decryptedKey key (q .additional)) u) (answered key u q [])))
+    (accepts (awaiting (decryptedKey key (q .additional)) (afterUse key u)) (answered key u q [])))
 
 -- 0x03: "The unit becomes fresh, keeping settings, clock, last nonce (spent), battery and pairing (house)"; so "0x03 drops both" keys
 unfoldable pub cleared : TagUnit → TagUnit

@@ -49,7 +49,7 @@ fn awaiting(u: TagUnit, key: [u8; IDENTITY_KEY_SIZE]) -> TagUnit
     after
 }
 
-// 0x02: sets the identity key, which waits for the connection to end.
+// 0x02: sets the identity key, which waits for the connection to end; the owner's account key is then the most recently used.
 pub fn set_key(u: TagUnit, h: Head, additional: &[u8]) -> Verdict
     requires { ⌜ Ready u (h .size) (now additional) × (identityKeySize ≤ length (now additional)) ⌝ }
     ensures { λ r. ⌜ Judges u (h .id) (setKey u (request h (now (additional .entry)))) r ⌝ }
@@ -63,7 +63,8 @@ pub fn set_key(u: TagUnit, h: Head, additional: &[u8]) -> Verdict
     }
     let a = u.accounts;
     let key = account::key_at(a, place);
-    let after = awaiting(u, key_blocks::decrypted_key(key, additional));
+    let mut after = awaiting(u, key_blocks::decrypted_key(key, additional));
+    after.accounts = account_keys::used(a, place);
     answering::granted(after, account::signing_key(key), b"")
 }
 

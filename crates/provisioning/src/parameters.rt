@@ -46,7 +46,7 @@ fn plain(s: Settings, seconds: u32) -> [u8; BLOCK_SIZE]
     block
 }
 
-// 0x00: the parameters, encrypted by the account key used.
+// 0x00: the parameters, encrypted by the account key used, which is then the most recently used.
 pub fn read_parameters(u: TagUnit, h: Head, additional: &[u8]) -> Verdict
     requires { ⌜ Ready u (h .size) (now additional) ⌝ }
     ensures { λ r. ⌜ Judges u (h .id) (readParameters u (request h (now (additional .entry)))) r ⌝ }
@@ -59,5 +59,8 @@ pub fn read_parameters(u: TagUnit, h: Head, additional: &[u8]) -> Verdict
     let key = account::key_at(a, place);
     let settings = u.settings;
     let block = primitives::encrypt(key, plain(settings, u.clock.seconds));
-    answering::granted(u, account::signing_key(key), &block)
+    let used = account_keys::used(a, place);
+    let mut after = u;
+    after.accounts = used;
+    answering::granted(after, account::signing_key(key), &block)
 }

@@ -66,7 +66,7 @@ fn state_of(bits: u8, id: [u8; IDENTIFIER_SIZE]) -> [u8; STATE_SIZE]
     data
 }
 
-// 0x01: the provisioning state. With no owner the key used becomes the owner.
+// 0x01: the provisioning state. With no owner the key used becomes the owner; it is then the most recently used.
 pub fn read_state(u: TagUnit, h: Head, additional: &[u8]) -> Verdict
     requires { ⌜ Ready u (h .size) (now additional) ⌝ }
     ensures { λ r. ⌜ Judges u (h .id) (readState u (request h (now (additional .entry)))) r ⌝ }
@@ -79,8 +79,9 @@ pub fn read_state(u: TagUnit, h: Head, additional: &[u8]) -> Verdict
     let key = account::signing_key(account::key_at(a, place));
     let owned = owned_by(a, place);
     let bits = state_bits(u.identity.held, owns(owned, place));
+    let used = account_keys::used(owned, place);
     let mut after = u;
-    after.accounts = owned;
+    after.accounts = used;
     let i = standing::current(u);
     if i.some {
         let id = i.id;

@@ -30,12 +30,12 @@ digestSize = 32
 abbrev pub longestMessage : ℕ
 longestMessage = 65535
 
--- "Up to 5 account keys of 16 bytes"
+-- "account keys of 16 bytes"; "Raise the table from 5 keys to 10"
 abbrev pub accountKeySize : ℕ
 accountKeySize = 16
 
 abbrev pub mostKeys : ℕ
-mostKeys = 5
+mostKeys = 10
 
 abbrev pub keysRoom : ℕ
 keysRoom = mostKeys * accountKeySize

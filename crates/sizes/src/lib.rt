@@ -33,7 +33,7 @@ pub const NONCES_ROOM: usize = MOST_NONCES as usize * NONCE_SIZE;
 pub const EARLIER_ROOM: usize = NONCES_ROOM - NONCE_SIZE;
 
 // The account keys that a unit has room for.
-pub const MOST_KEYS: usize = 5;
+pub const MOST_KEYS: usize = 10;
 
 pub const KEYS_ROOM: usize = MOST_KEYS * ACCOUNT_KEY_SIZE;
 

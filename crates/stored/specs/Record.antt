@@ -14,7 +14,7 @@ use Rattle.record_parts.specs.Groups.{settingsSize, clockSize, noncesSize, acco
 
 -- raised by every change of the layout; never 0x00 or 0xFF, so that zeroed and erased memory are no record
 abbrev pub version : ℕ
-version = 0x04
+version = 0x05
 
 abbrev pub unitSize : ℕ
 unitSize =

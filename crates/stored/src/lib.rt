@@ -22,7 +22,7 @@ use unit::TagUnit;
 use unit::change;
 
 // Raised by every change of the layout; never 0x00 or 0xFF, so that zeroed and erased memory are no record.
-pub const VERSION: u8 = 0x04;
+pub const VERSION: u8 = 0x05;
 
 const VERSION_AT: usize = 0;
 

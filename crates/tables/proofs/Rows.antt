@@ -207,3 +207,74 @@ place-at (k ∷ ks) (suc i) d h =
     let other : among k ks ≡ false = fails (among k ks) (λ e. clash (and-left _ _ d) (ap not e)) in
     rw (not-same k ks (getD ks i []) other (among-place ks i (omega arith)))
     (ap suc (place-at ks i (and-right (not (among k ks)) _ d) (omega arith)))
+
+-- A row put first in place of another
+abbrev pub others : ℕ → List (List ℕ) → List (List ℕ)
+others place l = take place l ++ drop (suc place) l
+
+rows-others : (width count place : ℕ) (table : List ℕ) → place ≤ count → suc count * width ≤ length table
+    → rows width count (take (place * width) table ++ drop (suc place * width) table) ≡ others place (rows width (suc count) table)
+unfolding rows
+rows-others width count zero table h f = rw (zero-mul width, suc-mul 0 width, zero-mul width, zero-add width)
+rows-others width zero (suc place) table h f = absurd (omega arith)
+rows-others width (suc count) (suc place) table h f =
+    let here : suc place * width ≡ width + place * width = omega (arith, suc-mul place width) in
+    let next : suc (suc place) * width ≡ width + suc place * width = omega (arith, suc-mul (suc place) width) in
+    let all : suc (suc count) * width ≡ width + suc count * width = omega (arith, suc-mul (suc count) width) in
+    let most : suc place * width ≤ suc count * width = mul-le-mul-right width h in
+    let fits : width + place * width ≤ length table = omega arith in
+    let front : width ≤ length (take (width + place * width) table) = omega (arith, length-take-le (width + place * width) table fits) in
+    let first : take width (take (width + place * width) table ++ drop (width + suc place * width) table) ≡ take width table
+    = take-append-le width (take (width + place * width) table) _ front ∙ take-take width (width + place * width) table (omega arith) in
+    let rest : drop width (take (width + place * width) table ++ drop (width + suc place * width) table)
+    ≡ take (place * width) (drop width table) ++ drop (suc place * width) (drop width table)
+    = drop-append-le width (take (width + place * width) table) (drop (width + suc place * width) table) front
+    ∙ rw (drop-take width (place * width) table, drop-drop (suc place * width) width table) in
+    rw (here, next, first, rest)
+    (ap (λ (r : List (List ℕ)). take width table ∷ r)
+    (rows-others width count place (drop width table) (omega arith) (omega (arith, length-drop width table))))
+
+pub rows-first : (width count place : ℕ) (table row : List ℕ) → length row ≡ width → place ≤ count → suc count * width ≤ length table
+    → rows width (suc count) (row ++ (take (place * width) table ++ drop (suc place * width) table)) ≡ row ∷ others place (rows width (suc count) table)
+unfolding rows
+rows-first width count place table row e h f =
+    rw (take-at row (take (place * width) table ++ drop (suc place * width) table) width e, drop-at row (take (place * width) table ++ drop (suc place * width) table) width e)
+    (ap (λ (r : List (List ℕ)). row ∷ r) (rows-others width count place table h f))
+
+-- what is not among rows is not among fewer of them, and what is distinct stays so
+pub among-others : (k : List ℕ) (place : ℕ) (l : List (List ℕ)) → among k l ≡ false → among k (others place l) ≡ false
+unfolding among
+among-others k place [] h = rw (take-nil place)
+among-others k zero (x ∷ xs) h = not-rest k x xs h
+among-others k (suc place) (x ∷ xs) h =
+    rw (or-fails-left (sameBytes k x) (among k xs) h) (among-others k place xs (not-rest k x xs h))
+
+pub distinct-others : (place : ℕ) (l : List (List ℕ)) → distinct l ≡ true → distinct (others place l) ≡ true
+unfolding distinct
+distinct-others place [] d = rw (take-nil place)
+distinct-others zero (k ∷ ks) d = and-right (not (among k ks)) _ d
+distinct-others (suc place) (k ∷ ks) d =
+    let other : among k ks ≡ false = fails (among k ks) (λ e. clash (and-left _ _ d) (ap not e)) in
+    both (ap not (among-others k place ks other)) (distinct-others place ks (and-right (not (among k ks)) _ d))
+
+pub not-among-others : (place : ℕ) (l : List (List ℕ)) → distinct l ≡ true → place < length l → among (getD l place []) (others place l) ≡ false
+unfolding distinct among
+not-among-others place [] d h = absurd (omega arith)
+not-among-others zero (k ∷ ks) d h = fails (among k ks) (λ e. clash (and-left _ _ d) (ap not e))
+not-among-others (suc place) (k ∷ ks) d h =
+    let other : among k ks ≡ false = fails (among k ks) (λ e. clash (and-left _ _ d) (ap not e)) in
+    rw (not-same k ks (getD ks place []) other (among-place ks place (omega arith)))
+    (not-among-others place ks (and-right (not (among k ks)) _ d) (omega arith))
+
+-- where the other rows stand
+pub others-before : (place i : ℕ) (l : List (List ℕ)) → i < place → place < length l → getD (others place l) i [] ≡ getD l i []
+others-before place i [] h k = absurd (omega arith)
+others-before zero i (x ∷ xs) h k = absurd (omega arith)
+others-before (suc place) zero (x ∷ xs) h k = refl
+others-before (suc place) (suc i) (x ∷ xs) h k = others-before place i xs (omega arith) (omega arith)
+
+pub others-behind : (place i : ℕ) (l : List (List ℕ)) → place ≤ i → getD (others place l) i [] ≡ getD l (suc i) []
+others-behind place i [] h = rw (take-nil place)
+others-behind zero i (x ∷ xs) h = refl
+others-behind (suc place) zero (x ∷ xs) h = absurd (omega arith)
+others-behind (suc place) (suc i) (x ∷ xs) h = others-behind place i xs (omega arith)

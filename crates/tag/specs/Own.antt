@@ -2,15 +2,16 @@
 use Prim.Native.Nat.{ℕ}
 use mathlib.Core.Bool.{Bool, true, cond, not, _&&_}
 use mathlib.Core.List.{List, [], _∷_}
-use lib.Dec.{eqb, leb, ltb}
+use lib.Dec.{eqb, leb}
 use lib.ListN.{length}
-use Rattle.sizes.specs.Sizes.{accountKeySize, mostKeys, highestBattery, fullConsent}
+use Rattle.sizes.specs.Sizes.{accountKeySize, highestBattery, fullConsent}
 use Rattle.tables.specs.Rows.{among}
+use Rattle.account_keys.specs.Order.{keyAdded}
 use Rattle.nonces.specs.Nonces.{nonceFits, withIssued}
 use Rattle.unit.specs.declared.TagUnit.{TagUnit}
 use Rattle.unit.specs.declared.Sound.{Sound}
 use Rattle.unit.specs.WellFormed.{heldKeys}
-use Rattle.unit.specs.Change.{silenced, withNonces, withAccounts, withNewKey, withConsent, withPairing, withBattery, withIdentity, withWaiting, noIdentity, keyInForce}
+use Rattle.unit.specs.Change.{silenced, withNonces, withAccounts, withConsent, withPairing, withBattery, withIdentity, withWaiting, noIdentity, keyInForce}
 use Rattle.unit.specs.Outcome.{Outcome, giving, refusing}
 use Rattle.wire.specs.Signing.{version, stopNotice, byButton}
 
@@ -31,14 +32,11 @@ pressed (Sound.Ringing mask volume left) u = giving (stopNotice (keyInForce u) (
 unfoldable pub charged : ℕ → TagUnit → Outcome
 charged level u = cond (leb level highestBattery) (giving [] (withBattery level u)) (refusing 1 u)
 
--- "4: account key not 16 bytes, or a sixth new key"; "Adding a key already held succeeds and changes nothing, even when full"
+-- "Refusal 4 then remains only for a wrong size"; "Adding a key already held succeeds and changes nothing, even when full"; a new one "counts as use"
 unfoldable pub keeping : List ℕ → TagUnit → Outcome
 keeping key u =
     cond (not (eqb (length key) accountKeySize)) (refusing 4 u)
-    (cond (among key (heldKeys (u .accounts))) (giving [] u)
-    (cond (ltb (u .accounts .count) mostKeys)
-    (giving [] (withAccounts (withNewKey key (u .accounts)) u))
-    (refusing 4 u)))
+    (cond (among key (heldKeys (u .accounts))) (giving [] u) (giving [] (withAccounts (keyAdded key (u .accounts)) u)))
 
 -- Disconnect: by source document 004 the new key "takes effect right after the connection ends"; "Sound ends .. at a disconnect that brings a
 -- waiting key in, no longer at the write; any other disconnect changes nothing"

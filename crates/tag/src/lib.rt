@@ -153,7 +153,8 @@ pub fn battery(u: TagUnit, level: u32) -> Step
     end::refuse(u, Refusal::NotWellFormed)
 }
 
-// Adds an account key; one already held changes nothing. Refusals: 2, 4.
+// Adds an account key, which is then the most recently used; one already held changes nothing. In a full table the least recently used that is not
+// the owner's goes. Refusals: 2, and 4 for another size than 16 bytes.
 pub fn account_key(u: TagUnit, key: &[u8]) -> Step
     ensures { λ r. ⌜ Completes (call (of.accountKey (now (key .entry))) 0 u) (r .unit) (r .reply) ⌝ }
 {

@@ -11,9 +11,9 @@ use borrow.Author.Tests.{lt-ltb}
 use Rattle.laws.specs.Bytes.{allZero}
 use Rattle.laws.proofs.Flags.{and-right, or-left, or-right, or-rest, true-or-false}
 use Rattle.laws.proofs.Same.{replicate-zeros}
-use Rattle.unit.specs.Change.{fresh, noIdentity, identityKey, withClock, withNonces, withAccounts, withOwner, withNewKey, withIdentity, withWaiting, withProtection, withConsent, withPairing, withBattery, withSound, silenced, spent}
-use Rattle.sizes.specs.Sizes.{accountKeySize, identityKeySize, mostKeys, nonceSize, fullConsent, highestBattery}
-use Rattle.tables.specs.Rows.{rows, among, distinct}
+use Rattle.unit.specs.Change.{fresh, noIdentity, identityKey, withClock, withNonces, withAccounts, withOwner, withIdentity, withWaiting, withProtection, withConsent, withPairing, withBattery, withSound, silenced, spent}
+use Rattle.sizes.specs.Sizes.{identityKeySize, nonceSize, fullConsent, highestBattery}
+use Rattle.tables.specs.Rows.{rows, distinct}
 use Rattle.unit.specs.WellFormed.{settingsLegal, heldKeys, ownerLegal, owned, identityLegal, soundLegal, protectionLegal, wellFormed}
 use Rattle.unit.specs.declared.TagUnit.{TagUnit}
 use Rattle.unit.specs.declared.Settings.{Settings}
@@ -22,12 +22,12 @@ use Rattle.nonces.specs.declared.Nonces.{Nonces}
 use Rattle.nonces.specs.Nonces.{noncesLegal, nonceFits, withIssued}
 use Rattle.nonces.proofs.Lines.{none-legal, spent-legal}
 use Rattle.nonces.proofs.Issuing.{issued-legal}
+use Rattle.unit.specs.declared.Accounts.{Accounts}
 use Rattle.unit.specs.declared.Owner.{Owner}
 use Rattle.unit.specs.declared.Identity.{Identity}
 use Rattle.unit.specs.declared.Sound.{Sound}
 use Rattle.unit.specs.declared.Protection.{Protection}
 use Rattle.unit.proofs.Lines.{AccountsLines, RingLines, lines, formed, settings-lines, ring-legal}
-use Rattle.unit.proofs.Adding.{accounts-added, owner-added}
 
 pub fresh-formed : (s : Settings) → settingsLegal s ≡ true → wellFormed (fresh s) ≡ true
 unfolding heldKeys rows distinct ownerLegal identityLegal soundLegal allZero
@@ -88,13 +88,14 @@ module _ (u : TagUnit) (w : wellFormed u ≡ true) where
   pub spent-kept : wellFormed (spent u) ≡ true
   spent-kept = nonces-kept (spent u .nonces) (spent-legal (u .nonces) (lines u w .nonces))
 
-  pub accounts-kept : (key : List ℕ) → length key ≡ accountKeySize → u .accounts .count < mostKeys → among key (heldKeys (u .accounts)) ≡ false
-      → wellFormed (withAccounts (withNewKey key (u .accounts)) u) ≡ true
-  accounts-kept key sized few new =
+  pub accounts-kept : (a : Accounts) → AccountsLines a → ownerLegal a ≡ true → owned (a .owner) ≡ owned (u .accounts .owner)
+      → wellFormed (withAccounts a u) ≡ true
+  unfolding identityLegal
+  accounts-kept a accounts owner same =
       let l = lines u w in
-      let accounts = accounts-added key (u .accounts) (l .accounts) sized few new in
-      let owner = owner-added key (u .accounts) (l .owner) in
-      formed (withAccounts (withNewKey key (u .accounts)) u) (search needs)
+      let identity : identityLegal (u .identity) (a .owner) ≡ true = rw same (l .identity) in
+      let waiting : identityLegal (u .waiting) (a .owner) ≡ true = rw same (l .waiting) in
+      formed (withAccounts a u) (search needs)
 
   pub owner-kept : (place : ℕ) → place < u .accounts .count → wellFormed (withAccounts (withOwner (Owner.Place place) (u .accounts)) u) ≡ true
   unfolding ownerLegal heldKeys

@@ -1,6 +1,5 @@
 pub mod Power
 pub mod Lines
-pub mod Adding
 pub mod Kept
 pub mod Ends
 pub mod Masks

@@ -1,11 +1,10 @@
 -- The unit with one thing changed, and the one form of each absent thing.
-use Prim.Native.Nat.{ℕ, _+_, _*_}
+use Prim.Native.Nat.{ℕ}
 use mathlib.Core.Bool.{Bool, true, false}
 use mathlib.Core.List.{List}
 use lib.ListN.{replicate}
 use lib.IntN.{pos}
-use Rattle.sizes.specs.Sizes.{nonceSize, accountKeySize, keysRoom, identityKeySize}
-use Rattle.octets.specs.Put.{pasted}
+use Rattle.sizes.specs.Sizes.{nonceSize, keysRoom, identityKeySize}
 use Rattle.nonces.specs.Nonces.{noNonces, spentNonces}
 use Rattle.unit.specs.declared.TagUnit.{TagUnit}
 use Rattle.unit.specs.declared.Settings.{Settings}
@@ -108,10 +107,6 @@ withBattery level u =
 -- the accounts with another owner
 abbrev pub withOwner : Owner → Accounts → Accounts
 withOwner o a = record { count = a .count; owner = o; keys = a .keys }
-
--- and with one key more, behind those held
-abbrev pub withNewKey : List ℕ → Accounts → Accounts
-withNewKey key a = record { count = a .count + 1; owner = a .owner; keys = pasted (a .keys) (a .count * accountKeySize) key }
 
 -- a sound, with the nonce of the accepted ring beside it
 abbrev pub withSound : Sound → List ℕ → TagUnit → TagUnit

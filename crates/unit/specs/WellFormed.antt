@@ -28,7 +28,7 @@ powerLegal (negsuc n) = leb n 99
 unfoldable pub settingsLegal : Settings → Bool
 settingsLegal s = powerLegal (s .power) && (leb (s .components) mostComponents && leb (s .selectable) 1)
 
--- Up to 5 account keys of 16 bytes: the rows held, in order of arrival
+-- Up to 10 account keys of 16 bytes: the rows held, in order of use, the most recent first
 unfoldable pub heldKeys : Accounts → List (List ℕ)
 heldKeys a = rows accountKeySize (a .count) (a .keys)
 

@@ -30,7 +30,7 @@ pub enum Owner {
     Place(usize),
 }
 
-// The account keys in order of arrival, a table of which the first `count` rows are held, and the owner among them.
+// The account keys in order of use, the most recent first, a table of which the first `count` rows are held, and the owner among them.
 pub struct Accounts {
     pub count: usize,
     pub owner: Owner,

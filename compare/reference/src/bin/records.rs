@@ -168,7 +168,8 @@ fn call_rows(table: &mut Table) {
     broken_fresh.tenth = 10;
     table.row("fresh-and-broken", &encode(&broken_fresh), &Call::Frame, ROOM, Some("02"));
     let crowded = encode(&damage::guests(SLOTS));
-    table.row("one-key-more-than-there-is-room", &crowded, &Call::AccountKey(vec![0xee; 16]), ROOM, Some("04"));
+    table.row("one-key-more-than-there-is-room", &crowded, &Call::AccountKey(vec![0xee; 16]), ROOM, Some("ok"));
+    table.row("key-of-15-bytes-beside-ten", &crowded, &Call::AccountKey(vec![0xa1; 15]), ROOM, Some("04"));
 }
 
 /// Right writes of each ID, and refused ones, over well formed records; the spent nonce and the missing consent are in the record.

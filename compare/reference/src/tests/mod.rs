@@ -45,7 +45,7 @@ pub fn provisioned(components: u32, selectable: u32) -> Unit {
     tag::account_key(&mut unit, &OWNER_KEY).unwrap();
     tag::account_key(&mut unit, &OTHER_KEY).unwrap();
     unit.has_owner = true;
-    unit.owner = 0;
+    unit.owner = 1; // the other key came later
     unit.has_identity = true;
     unit.identity = IDENTITY;
     assert!(unit.well_formed());

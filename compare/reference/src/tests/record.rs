@@ -75,20 +75,20 @@ fn settings_and_clock() {
 #[test]
 fn keys_and_owner() {
     let unit = full();
-    broken(|u| u.key_count = 6, &unit);
+    broken(|u| u.key_count = 11, &unit);
     broken(|u| u.key_count = 200, &unit);
     broken(|u| u.key_count = u64::MAX, &unit);
     broken(|u| u.keys[1] = u.keys[0], &unit);
-    broken(|u| u.keys[4][15] = 1, &unit);
+    broken(|u| u.keys[9][15] = 1, &unit);
     broken(|u| u.key_count = 1, &unit);
     broken(|u| u.key_count = 4, &unit);
     broken(|u| u.key_count = 0, &unit);
     right(|u| u.key_count = 3, &unit);
     broken(|u| u.owner = 2, &unit);
-    broken(|u| u.owner = 5, &unit);
+    broken(|u| u.owner = 10, &unit);
     broken(|u| u.owner = 1 << 63, &unit);
     broken(|u| u.has_owner = false, &unit);
-    right(|u| u.owner = 1, &unit);
+    right(|u| u.owner = 0, &unit);
     let fresh = tag::new_unit(0, 0, 0).unwrap();
     broken(|u| u.has_owner = true, &fresh);
     broken(|u| u.owner = 1, &fresh);

@@ -115,16 +115,71 @@ fn account_keys() {
     for wrong in [0, 15, 17, 125] {
         assert_eq!(tag::account_key(&mut unit, &vec![1; wrong]), Err(4));
     }
-    for n in 0..5u8 {
+    for n in 0..10u8 {
         assert_eq!(tag::account_key(&mut unit, &[n; 16]), Ok(()));
         assert_eq!(unit.key_count, n as u64 + 1);
+        assert_eq!(unit.keys[0], [n; 16]);
     }
     let before = unit.clone();
-    assert_eq!(tag::account_key(&mut unit, &[5; 16]), Err(4));
-    for n in 0..5u8 {
+    for n in 0..10u8 {
         assert_eq!(tag::account_key(&mut unit, &[n; 16]), Ok(()));
     }
     assert_eq!(unit, before);
+    assert_eq!(tag::account_key(&mut unit, &[5; 15]), Err(4));
+    // The first comes back as a new one, and the second goes.
+    assert_eq!(tag::account_key(&mut unit, &[10; 16]), Ok(()));
+    assert_eq!(unit.keys, core::array::from_fn(|n| [10 - n as u8; 16]));
+    assert_eq!(tag::account_key(&mut unit, &[0; 16]), Ok(()));
+    assert_eq!(unit.keys[..2], [[0; 16], [10; 16]]);
+    assert_eq!(unit.keys[9], [2; 16]);
+}
+
+/// The key dropped is the one whose last use or arrival is the longest ago, but never the owner.
+#[test]
+fn least_recently_used() {
+    let mut dice = Dice(6);
+    for round in 0..60 {
+        // Half of the runs go on without an owner.
+        let ids = [[0, 1, 2, 4, 9], [0, 0, 2, 4, 9]][round % 2];
+        let mut unit = tag::new_unit(0, 1, 0).unwrap();
+        let mut last_use: Vec<([u8; 16], u32)> = vec![];
+        let mut owner = None;
+        for step in 0..400u32 {
+            let key = [dice.below(14) as u8; 16];
+            let held = last_use.iter().position(|(other, _)| *other == key);
+            let nonce = (step as u64 + 1).to_be_bytes();
+            let id = ids[dice.below(5) as usize];
+            if id == 9 {
+                tag::account_key(&mut unit, &key).unwrap();
+                if held.is_none() {
+                    if last_use.len() == 10 {
+                        let oldest = last_use.iter().filter(|(other, _)| Some(*other) != owner).min_by_key(|(_, at)| *at).unwrap().0;
+                        last_use.retain(|(other, _)| *other != oldest);
+                    }
+                    last_use.push((key, step));
+                }
+            } else {
+                let data = if id == 2 { vec![3; 32] } else { vec![] };
+                let served = exchange(&mut unit, nonce, &key, id, &data).is_ok();
+                let expected = match id {
+                    0 | 1 => held.is_some(),
+                    2 => owner == Some(key),
+                    _ => false,
+                };
+                assert_eq!(served, expected);
+                if served {
+                    last_use[held.unwrap()].1 = step;
+                    if id == 1 && owner.is_none() {
+                        owner = Some(key);
+                    }
+                }
+            }
+            last_use.sort_by_key(|(_, at)| core::cmp::Reverse(*at));
+            let order: Vec<[u8; 16]> = last_use.iter().map(|(key, _)| *key).collect();
+            assert_eq!(unit.keys[..unit.key_count as usize], order[..]);
+            assert_eq!(unit.has_owner.then(|| unit.keys[unit.owner as usize]), owner);
+        }
+    }
 }
 
 #[test]
@@ -137,10 +192,10 @@ fn only_0x01_makes_an_owner() {
     assert!(!unit.has_owner);
     let answer = exchange(&mut unit, [3; 8], &OWNER_KEY, 0x01, &[]).unwrap();
     assert_eq!(answer, tag::make_answer(&OWNER_KEY, &[3; 8], 0x01, &[0x02]));
-    assert_eq!(unit.owner, 1);
+    assert_eq!(unit.keys[unit.owner as usize], OWNER_KEY);
     let answer = exchange(&mut unit, [4; 8], &OTHER_KEY, 0x01, &[]).unwrap();
     assert_eq!(answer[10..], [0x00]);
-    assert_eq!(unit.owner, 1);
+    assert_eq!((unit.owner, unit.keys[1]), (1, OWNER_KEY));
     assert_eq!(exchange(&mut unit, [5; 8], &OTHER_KEY, 0x02, &[0; 32]), Err(0x80));
     assert!(exchange(&mut unit, [6; 8], &OWNER_KEY, 0x02, &[0; 32]).is_ok());
     assert_eq!(exchange(&mut unit, [9; 8], &OWNER_KEY, 0x01, &[]).unwrap()[10..], [0x02]);
@@ -166,7 +221,9 @@ fn new_identity_key_and_what_stays() {
     let mut expected = unit.clone();
     let answer = exchange(&mut unit, [3; 8], &OWNER_KEY, 0x02, &data).unwrap();
     assert_eq!(answer, tag::make_answer(&OWNER_KEY, &[3; 8], 0x02, &[]));
-    // The write only sets the waiting key.
+    // The write only sets the waiting key, and the owner's key was used.
+    expected.keys.swap(0, 1);
+    expected.owner = 0;
     expected.nonce_count = 3;
     expected.nonces = unit.nonces;
     assert_eq!(unit.nonces[..4], [[3; 8], [2; 8], [1; 8], [0; 8]]);
@@ -310,15 +367,15 @@ fn frames_and_identifiers() {
 
 #[test]
 fn first_of_the_held_keys() {
-    // Two held keys with the same tag are not to be found; each key finds its own place.
     let mut unit = tag::new_unit(0, 0, 0).unwrap();
-    for n in 0..5u8 {
+    for n in 0..10u8 {
         tag::account_key(&mut unit, &[n; 16]).unwrap();
     }
-    for n in (0..5u8).rev() {
+    for n in (0..10u8).rev() {
         let answer = exchange(&mut unit, [n; 8], &[n; 16], 0x00, &[]).unwrap();
         let block = aes128_decrypt(&[n; 16], answer[10..].try_into().unwrap());
         assert_eq!(block, [0; 16]);
+        assert_eq!(unit.keys[0], [n; 16]);
     }
-    assert_eq!(exchange(&mut unit, [9; 8], &[9; 16], 0x00, &[]), Err(0x80));
+    assert_eq!(exchange(&mut unit, [11; 8], &[11; 16], 0x00, &[]), Err(0x80));
 }

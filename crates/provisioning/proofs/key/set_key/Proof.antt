@@ -63,6 +63,14 @@ decrypted-key-requires c κs = search needs
 awaiting-requires : tie.Need-awaiting-requires
 awaiting-requires c κs = search needs
 
+used-requires : tie.Need-used-requires
+used-requires c κs =
+    let key-at-at = c .before .before in
+    let found-at = key-at-at .before .before .before .before .before in
+    let signed-by-owner-at = found-at .before .before in
+    let start = signed-by-owner-at .before .before in
+    (accounts-legal (start .args .u .accounts) (lines (start .args .u) (start .pre .0 .formed) .accounts), found-below (signed-by-owner-at .signed-by-owner .ensures) (found-at .found .given .1))
+
 signing-key-requires : tie.Need-signing-key-requires
 signing-key-requires c κs = search needs
 
@@ -75,7 +83,8 @@ granted-requires c κs = search needs
 returns-3 : tie.Need-returns-3
 returns-3 c =
     let signing-key-at = c .before .before in
-    let awaiting-at = signing-key-at .before in
+    let used-at = signing-key-at .before in
+    let awaiting-at = used-at .before in
     let decrypted-key-at = awaiting-at .before in
     let key-at-at = decrypted-key-at .before in
     let if1-at = key-at-at .before .before in
@@ -85,7 +94,7 @@ returns-3 c =
     let start = signed-by-owner-at .before .before in
     grant (start .args .u) (start .args .h .id) (signing-key-at .signing-key .ensures) (c .granted .ensures)
     (key-set (start .args .u) (request (start .args .h) (start .args .additional .now)) (found-row (signed-by-owner-at .signed-by-owner .ensures) (found-at .found .given .1)) (key-at-at .key-at .ensures)
-    (granted (may-replace-at .may-replace .ensures) (if1-at .if1 .left)) (decrypted-key-at .decrypted-key .ensures) (awaiting-at .awaiting .ensures))
+    (granted (may-replace-at .may-replace .ensures) (if1-at .if1 .left)) (decrypted-key-at .decrypted-key .ensures) (awaiting-at .awaiting .ensures) (used-at .used .ensures))
 
 pub set-key-spec : {M : Type 1} → statement M
 set-key-spec =
@@ -102,6 +111,7 @@ set-key-spec =
     key-at-requires
     decrypted-key-requires
     awaiting-requires
+    used-requires
     signing-key-requires
     slice-aggregate-granted
     granted-requires

@@ -48,6 +48,14 @@ plain-requires c κs =
 encrypt-requires : tie.Need-encrypt-requires
 encrypt-requires c κs = search needs
 
+used-requires : tie.Need-used-requires
+used-requires c κs =
+    let key-at-at = c .before .before .before in
+    let found-at = key-at-at .before .before .before in
+    let used-key-at = found-at .before .before in
+    let start = used-key-at .before .before in
+    (accounts-legal (start .args .u .accounts) (lines (start .args .u) (start .pre .formed) .accounts), found-below (used-key-at .used-key .ensures) (found-at .found .given .1))
+
 signing-key-requires : tie.Need-signing-key-requires
 signing-key-requires c κs = search needs
 
@@ -60,7 +68,8 @@ granted-requires c κs = search needs
 returns-2 : tie.Need-returns-2
 returns-2 c =
     let signing-key-at = c .before .before in
-    let encrypt-at = signing-key-at .before in
+    let used-at = signing-key-at .before in
+    let encrypt-at = used-at .before in
     let plain-at = encrypt-at .before in
     let key-at-at = plain-at .before .before in
     let found-at = key-at-at .before .before .before in
@@ -68,7 +77,7 @@ returns-2 c =
     let start = used-key-at .before .before in
     grant (start .args .u) (start .args .h .id) (signing-key-at .signing-key .ensures) (c .granted .ensures)
     (parameters-read (start .args .u) (request (start .args .h) (start .args .additional .now)) (found-row (used-key-at .used-key .ensures) (found-at .found .given .1)) (key-at-at .key-at .ensures)
-    (plain-at .plain .ensures) (encrypt-at .encrypt .ensures))
+    (plain-at .plain .ensures) (encrypt-at .encrypt .ensures) (used-at .used .ensures))
 
 pub read-parameters-spec : {M : Type 1} → statement M
 read-parameters-spec =
@@ -82,6 +91,7 @@ read-parameters-spec =
     key-at-requires
     plain-requires
     encrypt-requires
+    used-requires
     signing-key-requires
     slice-aggregate-granted
     granted-requires

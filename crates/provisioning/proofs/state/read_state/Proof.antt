@@ -67,6 +67,16 @@ owns-requires c κs =
 state-bits-requires : tie.Need-state-bits-requires
 state-bits-requires c κs = search needs
 
+used-requires : tie.Need-used-requires
+used-requires c κs =
+    let owned-by-at = c .before .before in
+    let found-at = owned-by-at .before .before .before .before .before in
+    let used-key-at = found-at .before .before in
+    let start = used-key-at .before .before in
+    let ready = owned-ready (start .args .u .accounts) (found-at .found .given .0 .0) (owned-by-at .owned-by .ensures)
+    (accounts-legal (start .args .u .accounts) (lines (start .args .u) (start .pre .formed) .accounts)) (found-below (used-key-at .used-key .ensures) (found-at .found .given .1)) (lines (start .args .u) (start .pre .formed) .owner) in
+    (ready .0 .0, ready .1)
+
 current-requires : tie.Need-current-requires
 current-requires c κs = search needs
 
@@ -84,7 +94,8 @@ returns-2 c =
     let state-of-at = c .before .before in
     let if1-at = state-of-at .before .before in
     let current-at = if1-at .before in
-    let state-bits-at = current-at .before in
+    let used-at = current-at .before in
+    let state-bits-at = used-at .before in
     let owns-at = state-bits-at .before in
     let owned-by-at = owns-at .before in
     let signing-key-at = owned-by-at .before in
@@ -95,7 +106,7 @@ returns-2 c =
     grant (start .args .u) (start .args .h .id) (signing-key-at .signing-key .ensures) (c .granted .ensures)
     (rw (state-of-at .state-of .ensures)
     (state-read (start .args .u) (request (start .args .h) (start .args .additional .now)) (found-at .found .given .0 .0) (found-row (used-key-at .used-key .ensures) (found-at .found .given .1)) (key-at-at .key-at .ensures)
-    (owned-by-at .owned-by .ensures) (owns-at .owns .ensures) (state-bits-at .state-bits .ensures) (shown-all (start .args .u) (current-at .current .ensures) (if1-at .if1 .taken))))
+    (owned-by-at .owned-by .ensures) (owns-at .owns .ensures) (state-bits-at .state-bits .ensures) (shown-all (start .args .u) (current-at .current .ensures) (if1-at .if1 .taken)) (used-at .used .ensures)))
 
 slice-aggregate-granted-2 : tie.Need-slice-aggregate-granted-2
 slice-aggregate-granted-2 c = search needs
@@ -107,7 +118,8 @@ returns-3 : tie.Need-returns-3
 returns-3 c =
     let if1-at = c .before .before in
     let current-at = if1-at .before in
-    let state-bits-at = current-at .before in
+    let used-at = current-at .before in
+    let state-bits-at = used-at .before in
     let owns-at = state-bits-at .before in
     let owned-by-at = owns-at .before in
     let signing-key-at = owned-by-at .before in
@@ -117,7 +129,7 @@ returns-3 c =
     let start = used-key-at .before .before in
     grant (start .args .u) (start .args .h .id) (signing-key-at .signing-key .ensures) (c .granted2 .ensures)
     (state-read (start .args .u) (request (start .args .h) (start .args .additional .now)) (found-at .found .given .0 .0) (found-row (used-key-at .used-key .ensures) (found-at .found .given .1)) (key-at-at .key-at .ensures)
-    (owned-by-at .owned-by .ensures) (owns-at .owns .ensures) (state-bits-at .state-bits .ensures) (shown-none (start .args .u) (current-at .current .ensures) (if1-at .if1 .left)))
+    (owned-by-at .owned-by .ensures) (owns-at .owns .ensures) (state-bits-at .state-bits .ensures) (shown-none (start .args .u) (current-at .current .ensures) (if1-at .if1 .left)) (used-at .used .ensures))
 
 pub read-state-spec : {M : Type 1} → statement M
 read-state-spec =
@@ -133,6 +145,7 @@ read-state-spec =
     owned-by-requires
     owns-requires
     state-bits-requires
+    used-requires
     current-requires
     state-of-requires
     slice-aggregate-granted

@@ -7,6 +7,7 @@ use lib.ListN.{length, drop, take, length-drop}
 use lib.Seq.{take-all}
 use Rattle.laws.specs.Bytes.{allZero}
 use Rattle.laws.proofs.Flags.{granted, refuted, fails, agree, clash}
+use Rattle.sizes.specs.Sizes.{accountKeySize, keysRoom}
 use Rattle.unit.specs.WellFormed.{heldKeys}
 use Rattle.unit.proofs.Lines.{accounts-lines, accounts-legal}
 use borrow.Author.Needs.{needs}
@@ -21,7 +22,7 @@ slice-aggregate-distinct c = search needs
 
 distinct-requires : tie.Need-distinct-requires
 distinct-requires c κs =
-    let long : length (c .before .before .before .args .a .keys) ≡ 80 = search needs in
+    let long : length (c .before .before .before .args .a .keys) ≡ keysRoom = search needs in
     omega arith
 
 returns-2 : tie.Need-returns-2
@@ -41,7 +42,7 @@ part-all-zero-start c = search needs
 
 part-all-zero-end : tie.Need-part-all-zero-end
 part-all-zero-end c =
-    let long : length (c .before .before .before .before .before .before .args .a .keys) ≡ 80 = search needs in
+    let long : length (c .before .before .before .before .before .before .args .a .keys) ≡ keysRoom = search needs in
     omega arith
 
 all-zero-requires : tie.Need-all-zero-requires
@@ -52,12 +53,12 @@ unfolding heldKeys
 returns-3 c =
     let tests = c .before .before .before in
     let a = tests .before .before .before .before .before .args .a in
-    let long : length (a .keys) ≡ 80 = search needs in
-    let spare : List ℕ = drop (a .count * 16) (a .keys) in
-    let all : length spare ≡ 80 - a .count * 16 = omega (arith, length-drop (a .count * 16) (a .keys)) in
+    let long : length (a .keys) ≡ keysRoom = search needs in
+    let spare : List ℕ = drop (a .count * accountKeySize) (a .keys) in
+    let all : length spare ≡ keysRoom - a .count * accountKeySize = omega (arith, length-drop (a .count * accountKeySize) (a .keys)) in
     let different = granted (tests .before .distinct .ensures) (tests .if2 .left) in
     c .all-zero .ensures
-    ∙ ap allZero (take-all (80 - a .count * 16) spare (omega arith))
+    ∙ ap allZero (take-all (keysRoom - a .count * accountKeySize) spare (omega arith))
     ∙ agree _ _
     (λ e. accounts-legal a (record { room = long; count = omega arith; different = different; spare = e }))
     (λ e. accounts-lines a e .spare)
