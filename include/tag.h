@@ -92,8 +92,8 @@ extern "C" {
 #define TAG_NONCES_EARLIER_AT (TAG_NONCES_NEWEST_AT + TAG_NONCE_SIZE) /* those before it, newest first */
 #define TAG_ACCOUNTS_COUNT_AT (TAG_NONCES_EARLIER_AT + (TAG_MOST_NONCES - 1) * TAG_NONCE_SIZE) /* 8 bytes: how many keys are held */
 #define TAG_OWNER_KIND_AT (TAG_ACCOUNTS_COUNT_AT + 8) /* 0 nobody, 1 a place */
-#define TAG_OWNER_PLACE_AT (TAG_OWNER_KIND_AT + 1) /* 8 bytes: the owner's place among the keys */
-#define TAG_ACCOUNTS_KEYS_AT (TAG_OWNER_PLACE_AT + 8) /* TAG_MOST_KEYS keys */
+#define TAG_OWNER_PLACE_AT (TAG_OWNER_KIND_AT + 1) /* 8 bytes: the place of the owner's key, which moves with use */
+#define TAG_ACCOUNTS_KEYS_AT (TAG_OWNER_PLACE_AT + 8) /* TAG_MOST_KEYS keys, the most recently used first */
 #define TAG_IDENTITY_HELD_AT (TAG_ACCOUNTS_KEYS_AT + TAG_MOST_KEYS * TAG_ACCOUNT_KEY_SIZE)
 #define TAG_IDENTITY_BYTES_AT (TAG_IDENTITY_HELD_AT + 1) /* the identity key in force */
 #define TAG_WAITING_HELD_AT (TAG_IDENTITY_BYTES_AT + TAG_IDENTITY_KEY_SIZE) /* the identity key that waits for the connection to end */

@@ -20,6 +20,7 @@ use Rattle.demands.proofs.Refused.{refused}
 use Rattle.demands.proofs.KeysByUse.{keys-by-use}
 use Rattle.demands.proofs.Events.{events}
 use Rattle.demands.proofs.FrameRead.{frame-read}
+use Rattle.demands.proofs.PrimitiveCalls.{primitive-calls}
 
 pub demands : Demands
 demands =
@@ -28,6 +29,7 @@ demands =
       formed = formed;
       refusals = refusal-order;
       wellFormed = well-formed-exactly;
+      primitives = primitive-calls;
       accepted = accepted;
       refused = refused;
       events = events;

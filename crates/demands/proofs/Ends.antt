@@ -118,12 +118,12 @@ judged-fair u w reach = search (fairly, either Fair, by-id-fair)
 module _ {u : TagUnit} (before : List ℕ) where
   plain-ended : {o : Outcome} → Plainly u o → Ended u o before
   unfolding lentAfter
-  plain-ended (answered answer e) = withAnswer answer e
+  plain-ended (answered answer e) = withAnswer answer e (rw e)
   plain-ended (refused n p e k) = refusedSame n p e k (rw e)
 
   fair-ended : {j : Judgement} → Fair j → Ended u (concluded (spent u) j) before
   unfolding lentAfter
-  fair-ended (accepted {answer = answer}) = withAnswer answer refl
+  fair-ended (accepted {answer = answer}) = withAnswer answer refl refl
   fair-ended (rejected {n = n} s) = refusedSpent n s refl refl refl
 
   -- through the guards

@@ -66,4 +66,4 @@ sent-reads u room text e =
     record { flags = flagsFor (u .battery) on (cutR u); read = frame-reads 20 text (_, frame); readWithR = opened }
 
 pub frame-read : FrameRead
-frame-read = record { sentReads = sent-reads; anyText = read-back 20; anyTextWithR = read-back-with-r 20 }
+frame-read = record { sentReads = sent-reads; anyText = read-back 20; anyTextWithR = read-back-with-r 20; byteRefusal = refl; sizeRefusal = refl }

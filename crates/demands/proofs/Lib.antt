@@ -56,3 +56,4 @@ pub mod WaitingKey
 pub mod RecoveryExample
 pub mod Demands
 pub mod FrameRead
+pub mod PrimitiveCalls

@@ -74,7 +74,7 @@ module _ (a : Act) (u : TagUnit) (n : ℕ) where
   unit-same low e = go (demand1 .acts a u [])
     where
       go : Ended u (step a u) [] → step a u .unit ≡ u
-      go (withAnswer answer g) = let z : _≡_ {A = ℕ} 0 1 = cc in absurd (omega arith)
+      go (withAnswer answer g l) = let z : _≡_ {A = ℕ} 0 1 = cc in absurd (omega arith)
       go (refusedSpent m s g is b) = let same : m ≡ n = cc in absurd (omega (arith, spends-from s))
       go (refusedSame m p g is b) = is
 
@@ -82,7 +82,7 @@ module _ (a : Act) (u : TagUnit) (n : ℕ) where
   unit-spent high e = go (demand1 .acts a u [])
     where
       go : Ended u (step a u) [] → OnlySpends u (step a u .unit)
-      go (withAnswer answer g) = let z : _≡_ {A = ℕ} 0 1 = cc in absurd (omega arith)
+      go (withAnswer answer g l) = let z : _≡_ {A = ℕ} 0 1 = cc in absurd (omega arith)
       go (refusedSpent m s g is b) = rw is (only-spends u)
       go (refusedSame m p g is b) = let same : m ≡ n = cc in absurd (omega (arith, plain-below p))
 

@@ -40,6 +40,7 @@ use Rattle.demands.specs.RefusalOrder.{RefusalOrder}
 use Rattle.demands.specs.RecordLines.{WellFormedExactly}
 use Rattle.demands.specs.Events.{Events}
 use Rattle.demands.specs.FrameRead.{FrameRead}
+use Rattle.demands.specs.PrimitiveCalls.{PrimitiveCalls}
 use Rattle.demands.specs.Nonces.{Demand2Nonces}
 use Rattle.demands.specs.NonceRepeats.{NonceRepeats}
 use Rattle.demands.specs.KeysByUse.{KeysByUse}
@@ -54,11 +55,12 @@ use Rattle.demands.specs.SleepUntil.{SleepUntil}
 use Rattle.demands.specs.Edges.{Edges}
 
 pub record Demands : Type 0 where
-  -- 1: how every call ends, with which refusals in which order, and that a unit stays one that calls serve
+  -- 1: how every call ends, with which refusals in which order, the calls of the primitives too, and that a unit stays one that calls serve
   pub ended : Demand1
   pub formed : Formed
   pub refusals : RefusalOrder
   pub wellFormed : WellFormedExactly
+  pub primitives : PrimitiveCalls
   -- 2: what each call gives and leaves, and which writes are refused; nonces; keys by use; recovery, with an example of it; the key that waits; what is in
   -- reach; consent; the paper's examples
   pub accepted : Accepted

@@ -5,7 +5,8 @@
 use Prim.Native.Nat.{ℕ}
 use mathlib.Core.Path.{_≡_}
 use mathlib.Core.Bool.{false}
-use mathlib.Core.List.{List, []}
+use mathlib.Core.List.{List, [], _++_}
+use lib.ListN.{length, drop}
 use lib.IntN.{ℤ}
 use Rattle.laws.specs.Answer.{gives, refuses, lentAfter}
 use Rattle.unit.specs.declared.TagUnit.{TagUnit}
@@ -30,9 +31,9 @@ pub data Plain : ℕ → Type 0 where
   noFrame : Plain 5
   noRoom : Plain 6
 
--- how a call on a unit ended, with the lent bytes that it was handed
+-- how a call on a unit ended, with the lent bytes that it was handed: "success writes a stated first part and keeps the rest"
 pub data Ended (u : TagUnit) (o : Outcome) (before : List ℕ) : Type 0 where
-  withAnswer : (answer : List ℕ) → o .result ≡ gives answer → Ended u o before
+  withAnswer : (answer : List ℕ) → o .result ≡ gives answer → lentAfter (o .result) before ≡ answer ++ drop (length answer) before → Ended u o before
   refusedSpent : (n : ℕ) → Spending n → o .result ≡ refuses n → o .unit ≡ spent u → lentAfter (o .result) before ≡ before → Ended u o before
   refusedSame : (n : ℕ) → Plain n → o .result ≡ refuses n → o .unit ≡ u → lentAfter (o .result) before ≡ before → Ended u o before
 

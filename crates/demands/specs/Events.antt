@@ -59,7 +59,6 @@ pub record Charged (level : ℕ) (u v : TagUnit) : Type 0 where
   pub levelIs : v .battery ≡ level
   pub rest : AllBut (Part.battery ∷ []) u v
 
--- a key of 16 bytes behind those held
 -- a new key takes the room of place p: it comes first, those before p stand one further on, and the owner's place is that of its key
 pub record Arrives (key : List ℕ) (p : ℕ) (u v : TagUnit) : Type 0 where
   pub owner : v .accounts .owner ≡ ownerOnceFirst p (u .accounts .owner)

@@ -8,7 +8,7 @@ use Rattle.laws.specs.Answer.{gives}
 use Rattle.unit.specs.declared.TagUnit.{TagUnit}
 use Rattle.unit.specs.declared.Protection.{Protection}
 use Rattle.frame.specs.declared.Flags.{Flags}
-use Rattle.frame_reader.specs.Reader.{Parts, reads, readFrame, readFrameWithR}
+use Rattle.frame_reader.specs.Reader.{Parts, reads, wrongByte, wrongSize, readFrame, readFrameWithR}
 use Rattle.frame_laws.specs.ReadBack.{ReadBack, ReadBackWithR}
 use Rattle.tag.specs.Calls.{frame, calls}
 use Rattle.demands.specs.EphemeralIdentifier.{identifierOf, cutR}
@@ -35,3 +35,6 @@ pub record FrameRead : Type 0 where
   -- any text: both round trips, and refused exactly at the first wrong byte
   pub anyText : ReadBack 20
   pub anyTextWithR : (r : List ℕ) → ReadBackWithR 20 r
+  -- "refuses with 8, new in the list"; of r, "refusal 1 if it isn't as long as its identifier"
+  pub byteRefusal : wrongByte ≡ 8
+  pub sizeRefusal : wrongSize ≡ 1

@@ -23,3 +23,4 @@ pub mod Edges
 pub mod RecoveryExample
 pub mod Demands
 pub mod FrameRead
+pub mod PrimitiveCalls

@@ -65,7 +65,7 @@ isKey (some owners) key = sameBytes owners key
 abbrev pub stateBits : Bool → Bool → ℕ
 stateBits held owner = cond held 1 0 + cond owner 2 0
 
--- "then the identifier if one stands for the current window, else nothing (house)"
+-- "then the identifier", which "0x01 omits .. only with no key or if r is 0 before the cut"
 unfoldable pub readState : TagUnit → Request → Judgement
 readState u q =
     under (usedKey u q)

@@ -89,7 +89,7 @@ static void draw_record(struct argument *a) {
 
 static void draw_nonce(struct argument *a) {
     sized(a, TAG_NONCE_SIZE);
-    if (one_in(15) && a->bytes == TAG_NONCE_SIZE) memcpy(a->at, unit + TAG_NONCE_BYTES_AT, TAG_NONCE_SIZE);
+    if (one_in(15) && a->bytes == TAG_NONCE_SIZE) memcpy(a->at, unit + TAG_NONCES_NEWEST_AT, TAG_NONCE_SIZE);
 }
 
 static void draw_account_key(struct argument *a) {
@@ -275,7 +275,7 @@ static void put_decimal(uint32_t number) {
 static uint32_t pick(void) {
     uint32_t sum = 0, n, i = 0;
     /* a live nonce is mostly used */
-    if (unit[TAG_NONCE_LIVE_AT] == 1 && !one_in(3))
+    if (unit[TAG_NONCES_LIVE_AT] == 1 && !one_in(3))
         while (i < COUNT && strcmp(exports[i].name, "tag_write")) i++;
     if (i > 0 && i < COUNT) return i;
     for (i = 0; i < COUNT; i++) sum += exports[i].often;
