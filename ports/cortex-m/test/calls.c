@@ -36,7 +36,8 @@ struct kind {
 
 static uint8_t unit[TAG_RECORD_SIZE]; /* the unit that the calls are made on */
 static int unit_lent;                 /* the record of this call is the unit as it stands */
-static uint8_t rooms[ARGUMENTS][ROOM] __attribute__((aligned(8))), before[ARGUMENTS][ROOM];
+static uint8_t rooms[ARGUMENTS][ROOM] __attribute__((aligned(8)));
+static uint64_t before[ARGUMENTS]; /* a sum over the bytes of each room that the call may not write */
 static const uint8_t zeros[TAG_LONGEST_MESSAGE + 1]; /* in flash on a chip */
 
 /* ---- chance: the same numbers everywhere */
@@ -237,7 +238,8 @@ struct export {
 static const struct export exports[] = {EXPORTS(ENTRY)};
 enum { COUNT = sizeof exports / sizeof *exports };
 
-static uint32_t served[COUNT], answered[COUNT], refused[COUNT][REFUSALS], ids[IDS];
+static uint32_t served[COUNT], answered[COUNT], ids[IDS];
+static uint16_t refused[COUNT][REFUSALS]; /* for at most 65,535 calls */
 static uint32_t stack[COUNT], spoilt;
 
 /* ---- printing */
@@ -284,6 +286,16 @@ static uint32_t pick(void) {
     return i;
 }
 
+/* A sum over the bytes of a room that are not of a slice which the call may write: another byte at any one place gives another sum. */
+static uint64_t kept(const struct export *e, const struct argument *a, int i) {
+    uint64_t sum = 0;
+    for (int k = 0; k < ROOM; k++) {
+        int inside = e->kinds[i]->written && &rooms[i][k] >= a[i].at && &rooms[i][k] < a[i].at + a[i].bytes;
+        if (!inside) sum = sum * 0x100000001B3u + rooms[i][k] + 1;
+    }
+    return sum;
+}
+
 /* Lays the arguments out in rooms of guard bytes, each at some alignment. */
 static void lay_out(const struct export *e, struct argument *a) {
     for (int i = 0; i < ARGUMENTS && e->kinds[i]; i++) {
@@ -292,19 +304,17 @@ static void lay_out(const struct export *e, struct argument *a) {
         a[i].bytes = 0;
         e->kinds[i]->draw(&a[i]);
     }
-    memcpy(before, rooms, sizeof rooms);
+    for (int i = 0; i < ARGUMENTS && e->kinds[i]; i++) before[i] = kept(e, a, i);
 }
 
 /* Every byte that is not of a slice which the call may write must be as before. */
 static void look_at_guards(const struct export *e, const struct argument *a) {
-    for (int i = 0; i < ARGUMENTS && e->kinds[i]; i++)
-        for (int k = 0; k < ROOM; k++) {
-            int inside = e->kinds[i]->written && &rooms[i][k] >= a[i].at && &rooms[i][k] < a[i].at + a[i].bytes;
-            if (inside || rooms[i][k] == before[i][k]) continue;
-            spoilt++;
-            put_text(" SPOILT");
-            return;
-        }
+    for (int i = 0; i < ARGUMENTS && e->kinds[i]; i++) {
+        if (kept(e, a, i) == before[i]) continue;
+        spoilt++;
+        put_text(" SPOILT");
+        return;
+    }
 }
 
 /* Where a refusal is counted. */

@@ -18,7 +18,7 @@ static void nothing(void) {}
 
 static void nops(void) { __asm volatile(".rept 8192\n nop\n .endr"); }
 
-static void write_request(void) { number = tag_write(record, sizeof record, request, bytes, answer, sizeof answer); }
+static void write_request(void) { number = tag_write(record, sizeof record, request, bytes, 0x07, answer, sizeof answer); }
 
 static void frame(void) { number = tag_frame(record, sizeof record, answer, sizeof answer); }
 
