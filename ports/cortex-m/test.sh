@@ -107,7 +107,7 @@ figures() {
         echo "$name: $(arm-none-eabi-size "$out/$name/libfirmware.a" | awk 'NR == 2 { print $1 }') bytes of code; stack by the deepest chain of calls, and measured:"
         python3 "$here/stack.py" "$runs/$name-calls.elf" "$out/$name/firmware.su" "$runs/$name.stack" | awk '{ printf "    %-20s %5d %5d\n", $1, $2, $3 }'
         link "$cpu" "$out/$name/libfirmware.a" "$test/figures.c" "$runs/$name-figures.elf"
-        run "$cpu" "$runs/$name-figures.elf" -icount shift=8 | sed 's/^/    instructions: /'
+        run "$cpu" "$runs/$name-figures.elf" -icount shift=4 | sed 's/^/    instructions: /'
     done
 }
 
