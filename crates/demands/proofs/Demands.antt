@@ -1,26 +1,26 @@
 -- Every demand holds: each by its own file.
 use Rattle.demands.specs.Demands.{Demands}
-use Rattle.demands.proofs.Ends.{demand1}
-use Rattle.demands.proofs.Formed.{formed}
-use Rattle.demands.proofs.Accepted.{accepted}
-use Rattle.demands.proofs.Nonces.{nonces}
-use Rattle.demands.proofs.NonceRepeats.{nonce-repeats}
-use Rattle.demands.proofs.Recovery.{recovery}
-use Rattle.demands.proofs.RecoveryExample.{example}
-use Rattle.demands.proofs.WaitingKey.{waiting-key}
-use Rattle.demands.proofs.Reach.{reach}
-use Rattle.demands.proofs.ConsentLasts.{consent-lasts}
-use Rattle.demands.proofs.Edges.{edges}
-use Rattle.demands.proofs.Time.{demand3}
-use Rattle.demands.proofs.RingLasts.{ring-lasts}
-use Rattle.demands.proofs.SleepUntil.{sleep-until}
-use Rattle.demands.proofs.RefusalOrder.{refusal-order}
-use Rattle.demands.proofs.RecordLines.{well-formed-exactly}
-use Rattle.demands.proofs.Refused.{refused}
-use Rattle.demands.proofs.KeysByUse.{keys-by-use}
-use Rattle.demands.proofs.Events.{events}
-use Rattle.demands.proofs.FrameRead.{frame-read}
-use Rattle.demands.proofs.PrimitiveCalls.{primitive-calls}
+use Rattle.demanded_refusals.proofs.Ends.{demand1}
+use Rattle.demanded_refusals.proofs.Formed.{formed}
+use Rattle.demanded_answers.proofs.Accepted.{accepted}
+use Rattle.demanded_nonces.proofs.Nonces.{nonces}
+use Rattle.demanded_nonces.proofs.NonceRepeats.{nonce-repeats}
+use Rattle.demanded_keys.proofs.Recovery.{recovery}
+use Rattle.demanded_keys.proofs.RecoveryExample.{example}
+use Rattle.demanded_keys.proofs.WaitingKey.{waiting-key}
+use Rattle.demanded_time.proofs.Reach.{reach}
+use Rattle.demanded_time.proofs.ConsentLasts.{consent-lasts}
+use Rattle.demanded_answers.proofs.Edges.{edges}
+use Rattle.demanded_time.proofs.Time.{demand3}
+use Rattle.demanded_time.proofs.RingLasts.{ring-lasts}
+use Rattle.demanded_time.proofs.SleepUntil.{sleep-until}
+use Rattle.demanded_refusals.proofs.RefusalOrder.{refusal-order}
+use Rattle.demanded_answers.proofs.RecordLines.{well-formed-exactly}
+use Rattle.demanded_refusals.proofs.Refused.{refused}
+use Rattle.demanded_keys.proofs.KeysByUse.{keys-by-use}
+use Rattle.demanded_answers.proofs.Events.{events}
+use Rattle.demanded_answers.proofs.FrameRead.{frame-read}
+use Rattle.demanded_answers.proofs.PrimitiveCalls.{primitive-calls}
 
 pub demands : Demands
 demands =

@@ -32,27 +32,27 @@
 --
 -- And of the number of tenths that it may sleep: "Show that any shorter sleep, cut as you like, gives no notification, the same frame or frame
 -- refusal, and the same yes or no on consent; and that at the named tenth at least one of those four things happens."
-use Rattle.demands.specs.Ends.{Demand1}
-use Rattle.demands.specs.Formed.{Formed}
-use Rattle.demands.specs.Accepted.{Accepted}
-use Rattle.demands.specs.Refused.{Refused}
-use Rattle.demands.specs.RefusalOrder.{RefusalOrder}
-use Rattle.demands.specs.RecordLines.{WellFormedExactly}
-use Rattle.demands.specs.Events.{Events}
-use Rattle.demands.specs.FrameRead.{FrameRead}
-use Rattle.demands.specs.PrimitiveCalls.{PrimitiveCalls}
-use Rattle.demands.specs.Nonces.{Demand2Nonces}
-use Rattle.demands.specs.NonceRepeats.{NonceRepeats}
-use Rattle.demands.specs.KeysByUse.{KeysByUse}
-use Rattle.demands.specs.Recovery.{Demand2Recovery}
-use Rattle.demands.specs.RecoveryExample.{RecoveryExample}
-use Rattle.demands.specs.WaitingKey.{WaitingKey}
-use Rattle.demands.specs.Reach.{Reach}
-use Rattle.demands.specs.Time.{Demand3}
-use Rattle.demands.specs.RingLasts.{RingLasts}
-use Rattle.demands.specs.ConsentLasts.{ConsentLasts}
-use Rattle.demands.specs.SleepUntil.{SleepUntil}
-use Rattle.demands.specs.Edges.{Edges}
+use Rattle.demanded_refusals.specs.Ends.{Demand1}
+use Rattle.demanded_refusals.specs.Formed.{Formed}
+use Rattle.demanded_answers.specs.Accepted.{Accepted}
+use Rattle.demanded_refusals.specs.Refused.{Refused}
+use Rattle.demanded_refusals.specs.RefusalOrder.{RefusalOrder}
+use Rattle.demanded_answers.specs.RecordLines.{WellFormedExactly}
+use Rattle.demanded_answers.specs.Events.{Events}
+use Rattle.demanded_answers.specs.FrameRead.{FrameRead}
+use Rattle.demanded_answers.specs.PrimitiveCalls.{PrimitiveCalls}
+use Rattle.demanded_nonces.specs.Nonces.{Demand2Nonces}
+use Rattle.demanded_nonces.specs.NonceRepeats.{NonceRepeats}
+use Rattle.demanded_keys.specs.KeysByUse.{KeysByUse}
+use Rattle.demanded_keys.specs.Recovery.{Demand2Recovery}
+use Rattle.demanded_keys.specs.RecoveryExample.{RecoveryExample}
+use Rattle.demanded_keys.specs.WaitingKey.{WaitingKey}
+use Rattle.demanded_time.specs.Reach.{Reach}
+use Rattle.demanded_time.specs.Time.{Demand3}
+use Rattle.demanded_time.specs.RingLasts.{RingLasts}
+use Rattle.demanded_time.specs.ConsentLasts.{ConsentLasts}
+use Rattle.demanded_time.specs.SleepUntil.{SleepUntil}
+use Rattle.demanded_answers.specs.Edges.{Edges}
 
 pub record Demands : Type 0 where
   -- 1: how every call ends, with which refusals in which order, the calls of the primitives too, and that a unit stays one that calls serve

@@ -12,7 +12,7 @@ use Rattle.tables.specs.Rows.{among}
 use Rattle.unit.specs.WellFormed.{wellFormed, heldKeys}
 use Rattle.unit.specs.declared.TagUnit.{TagUnit}
 use Rattle.unit.specs.Outcome.{Outcome, giving, refusing, formed}
-use Rattle.tag.specs.Own.{charged, keeping, disconnected}
+use Rattle.own_calls.specs.Own.{charged, keeping, disconnected}
 use Rattle.tag.specs.Calls.{Call, read, write, button, pairing, battery, accountKey, disconnect, frame, lends, own, guarded, call}
 
 pub record Quiet (o : Outcome) : Type 0 where

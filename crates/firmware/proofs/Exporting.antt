@@ -34,8 +34,8 @@ use Rattle.time.specs.Time.{tenths}
 use Rattle.time.specs.Passing.{Passes}
 use Rattle.nonces.specs.Nonces.{nonceFits}
 use Rattle.advertising.specs.Showing.{showing}
-use Rattle.tag.specs.Own.{issuing, pressed, charged, keeping, disconnected}
-use Rattle.tag.specs.Calls.{newUnit, Call, read, write, button, pairing, battery, accountKey, disconnect, frame, own, lends, guarded, call, elapsed}
+use Rattle.own_calls.specs.Own.{issuing, pressed, charged, keeping, disconnected, newUnit}
+use Rattle.tag.specs.Calls.{Call, read, write, button, pairing, battery, accountKey, disconnect, frame, own, lends, guarded, call, elapsed}
 use Rattle.stored.specs.Record.{decoded, encoded, recordSize}
 use Rattle.stored.proofs.RoundTrip.{other-length, noUnit-malformed}
 use Rattle.exports.specs.Exported.{endedBase, code, resultCode, recordAfter, bytesAfter, endCode, writesBack, Exports, ExportsAnswer, ExportsDigest, Finishes, digestCode}

@@ -3,22 +3,13 @@
 use Prim.Native.Nat.{ℕ}
 use mathlib.Core.Bool.{Bool, true, false, cond}
 use mathlib.Core.List.{List, []}
-use lib.IntN.{ℤ}
 use Rattle.unit.specs.declared.TagUnit.{TagUnit}
-use Rattle.unit.specs.declared.Settings.{Settings}
-use Rattle.unit.specs.WellFormed.{settingsLegal}
-use Rattle.unit.specs.Change.{fresh, noUnit, withPairing}
-use Rattle.unit.specs.Outcome.{Outcome, giving, refusing, formed, answering}
+use Rattle.unit.specs.Change.{withPairing}
+use Rattle.unit.specs.Outcome.{Outcome, giving, formed, answering}
 use Rattle.requests.specs.Write.{written}
 use Rattle.time.specs.Time.{tenths}
 use Rattle.advertising.specs.Showing.{showing}
-use Rattle.tag.specs.Own.{issuing, pressed, charged, keeping, disconnected}
-
--- A new unit: "settings .. out of range": 1; "A new unit checks only 1"
-unfoldable pub newUnit : ℤ → ℕ → ℕ → Outcome
-newUnit power components selectable =
-    let s : Settings = record { power = power; components = components; selectable = selectable } in
-    cond (settingsLegal s) (giving [] (fresh s)) (refusing 1 noUnit)
+use Rattle.own_calls.specs.Own.{issuing, pressed, charged, keeping, disconnected}
 
 -- what a phone writes, and the mask of reachable parts that the host lends with it
 pub record Written : Type 0 where

@@ -1,64 +1,34 @@
 // The calls of the tag. A unit goes in by value and comes back with the call's end. Any bytes and any record may be handed in: each call
 // ends with a result or with one refusal, in the order of its comment. A write refused with 0x80, 0x81 or 0x82 spends the nonce; any
 // other refusal leaves the unit as it was; no refusal writes a lent byte.
-ghost use mathlib.Core.Path.{_≡_};
 ghost use lib.ListN.{length};
-ghost use Rattle.unit.specs.declared.Reply.{Reply};
-ghost use Rattle.unit.specs.declared.Refusal.{Refusal};
-ghost use Rattle.unit.specs.Change.{noUnit};
 ghost use Rattle.unit.specs.Outcome.{Answers, Completes};
 ghost use Rattle.time.specs.Passing.{Passes};
 ghost use Rattle.sleep.specs.Sleep.{Sleeps};
-ghost use Rattle.tag.specs.Calls.{newUnit, call, elapsed as elapsedOf};
+ghost use Rattle.own_calls.specs.Own.{newUnit};
+ghost use Rattle.tag.specs.Calls.{call, elapsed as elapsedOf};
 ghost use Rattle.tag.specs.Calls as of;
+use own_calls::accounts;
+use own_calls::battery;
+use own_calls::connection;
+use own_calls::nonce;
+use own_calls::pairing;
+use own_calls::press;
+use own_calls::settings;
 use sizes::ANSWER_ROOM;
-use sizes::HIGHEST_BATTERY;
-use sizes::MOST_COMPONENTS;
 use sleep::Sleep;
 use time::Passed;
 use unit::Refusal;
-use unit::Reply;
-use unit::Settings;
 use unit::Step;
 use unit::TagUnit;
-use unit::change;
 use unit::end;
 use unit::well_formed;
-
-mod accounts;
-mod connection;
-mod nonce;
-mod press;
-
-// The end of a new unit that is refused: a record that is not well formed.
-fn no_unit() -> Step
-    ensures { λ r. ⌜ (r .unit ≡ noUnit) × (r .reply ≡ Reply.Refused Refusal.OutOfRange) ⌝ }
-{
-    Step {
-        unit: change::no_unit(),
-        reply: Reply::Refused(Refusal::OutOfRange),
-    }
-}
 
 // A new unit, fresh, with its settings. Refusals: 1 for settings out of range; the record given back is then not well formed.
 pub fn new_unit(power: i32, components: u32, selectable: u32) -> Step
     ensures { λ r. ⌜ Completes (newUnit power components selectable) (r .unit) (r .reply) ⌝ }
 {
-    if (MOST_COMPONENTS as u32) < components {
-        return no_unit();
-    }
-    if 1 < selectable {
-        return no_unit();
-    }
-    if well_formed::power_legal(power) {
-        let s = Settings {
-            power,
-            components: components as u8,
-            selectable: selectable as u8,
-        };
-        return end::accept(change::fresh(s), 0);
-    }
-    no_unit()
+    settings::new_unit(power, components, selectable)
 }
 
 // Read: issues the lent nonce, and answers with 0x01 and the nonce. Refusals: 6, 2, and 3 for a nonce that is not of eight bytes or is one of the
@@ -131,9 +101,7 @@ pub fn pairing(u: TagUnit, on: bool) -> Step
     ensures { λ r. ⌜ Completes (call (of.pairing on) 0 u) (r .unit) (r .reply) ⌝ }
 {
     if well_formed::well_formed(u) {
-        let mut after = u;
-        after.pairing = on;
-        return end::accept(after, 0);
+        return pairing::turned(u, on);
     }
     end::refuse(u, Refusal::NotWellFormed)
 }
@@ -143,12 +111,7 @@ pub fn battery(u: TagUnit, level: u32) -> Step
     ensures { λ r. ⌜ Completes (call (of.battery level) 0 u) (r .unit) (r .reply) ⌝ }
 {
     if well_formed::well_formed(u) {
-        if level <= (HIGHEST_BATTERY as u32) {
-            let mut after = u;
-            after.battery = level as u8;
-            return end::accept(after, 0);
-        }
-        return end::refuse(u, Refusal::OutOfRange);
+        return battery::told(u, level);
     }
     end::refuse(u, Refusal::NotWellFormed)
 }

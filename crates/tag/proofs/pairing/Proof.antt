@@ -1,7 +1,7 @@
--- `tag::pairing` meets its contract: a well-formed unit is changed, another is refused.
+-- `tag::pairing` meets its contract: a well-formed unit is handed on, another is refused.
 use Rattle.tag.specs.Calls.{guarded, call, own}
 use Rattle.tag.proofs.Guards.{formed-own, formed-refuses}
-use Rattle.unit.proofs.Ends.{refused-completes, done-completes}
+use Rattle.unit.proofs.Ends.{refused-completes}
 use borrow.Author.Needs.{needs}
 use Rattle.tag.proofs.pairing.Statement.{statement}
 use Rattle.tag.proofs.pairing.Tie as tie
@@ -9,12 +9,12 @@ use Rattle.tag.proofs.pairing.Tie as tie
 well-formed-requires : tie.Need-well-formed-requires
 well-formed-requires c κs = search needs
 
-accept-requires : tie.Need-accept-requires
-accept-requires c κs = search needs
+turned-requires : tie.Need-turned-requires
+turned-requires c κs = search needs
 
 returns : tie.Need-returns
 unfolding guarded call own
-returns c = rw (formed-own _ (c .before .before .well-formed .ensures) _ (c .before .if1 .taken)) (done-completes (c .accept .ensures))
+returns c = rw (formed-own _ (c .before .before .well-formed .ensures) _ (c .before .if1 .taken)) (c .turned .ensures)
 
 refuse-requires : tie.Need-refuse-requires
 refuse-requires c κs = search needs
@@ -25,4 +25,4 @@ returns-2 c = rw (formed-refuses _ (c .before .before .well-formed .ensures) _ (
 
 pub pairing-spec : {M : Type 1} → statement M
 pairing-spec =
-    tie.close (tie.spec well-formed-requires accept-requires returns refuse-requires returns-2)
+    tie.close (tie.spec well-formed-requires turned-requires returns refuse-requires returns-2)

@@ -1,0 +1,11 @@
+pub mod Edges
+pub mod Guards
+pub mod Judging
+pub mod Spelling
+pub mod EphemeralIdentifier
+pub mod Accepted
+pub mod Events
+pub mod MaskBits
+pub mod RecordLines
+pub mod FrameRead
+pub mod PrimitiveCalls

@@ -1,0 +1,9 @@
+pub mod Spelled
+pub mod EphemeralIdentifier
+pub mod History
+pub mod Accepted
+pub mod RecordLines
+pub mod Events
+pub mod Edges
+pub mod FrameRead
+pub mod PrimitiveCalls

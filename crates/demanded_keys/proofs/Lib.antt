@@ -1,0 +1,10 @@
+pub mod FirstOthers
+pub mod KeptKeys
+pub mod KeysByUse
+pub mod KeyKept
+pub mod KeyBytes
+pub mod Blocks
+pub mod Recovery
+pub mod WaitingUnseen
+pub mod WaitingKey
+pub mod RecoveryExample

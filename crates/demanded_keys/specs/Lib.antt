@@ -1,0 +1,4 @@
+pub mod KeysByUse
+pub mod Recovery
+pub mod WaitingKey
+pub mod RecoveryExample

@@ -1,0 +1,3 @@
+pub mod Nonces
+pub mod NonceRepeats
+pub mod Among

@@ -1,0 +1,16 @@
+pub mod Choices
+pub mod Ends
+pub mod Tenths
+pub mod OfBytes
+pub mod HeldKeys
+pub mod KeyUses
+pub mod Writes
+pub mod Formed
+pub mod Sent
+pub mod RingValues
+pub mod Refusing
+pub mod Reasons
+pub mod Refused
+pub mod LentRoom
+pub mod OwnRefusals
+pub mod RefusalOrder

@@ -1,0 +1,4 @@
+pub mod Ends
+pub mod Formed
+pub mod Refused
+pub mod RefusalOrder

@@ -1,0 +1,13 @@
+pub mod Room
+pub mod RingTenths
+pub mod Passing
+pub mod Course
+pub mod Time
+pub mod CallsOnSound
+pub mod RingStarts
+pub mod RingRuns
+pub mod Reach
+pub mod RingLasts
+pub mod ConsentLasts
+pub mod Sleeps
+pub mod SleepUntil

@@ -1,0 +1,5 @@
+pub mod Time
+pub mod Reach
+pub mod RingLasts
+pub mod ConsentLasts
+pub mod SleepUntil
