@@ -13,7 +13,7 @@ use Rattle.hash.specs.Sha256.{digest, SHA256}
 use Rattle.compression.specs.declared.Working.{Working}
 use Rattle.hash.proofs.Hashed.{byteOf, digest-bytes, zeros-low, zeros-high, length-blocks}
 
-length-digest : (H : Working) → length (digest H) ≡ 32
+pub length-digest : (H : Working) → length (digest H) ≡ 32
 unfolding digest bigEndian
 length-digest H = refl
 

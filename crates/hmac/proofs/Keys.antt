@@ -1,5 +1,5 @@
 -- The key block of HMAC: how loops fill it and mask it, its length under a mask, and how the two hashes under it make HMAC.
-use mathlib.Core.Path.{_≡_, sym, _∙_}
+use mathlib.Core.Path.{_≡_, sym, ap, _∙_}
 use mathlib.Core.List.{List, [], _++_, append-nil}
 use Prim.Native.Nat.{ℕ, zero, suc, _+_, _-_, _≤_, _<_}
 use native.Mathlib.Omega.{arith}
@@ -11,8 +11,11 @@ use Rattle.laws.specs.Bytes.{_⊕_}
 use Rattle.laws.proofs.Tabulate.{tabulate-getD, filledTo, filled-turn, filled-all, filled-rest}
 use Rattle.laws.proofs.Masked.{masked, length-xor}
 use Rattle.hmac.specs.Hmac.{filled, shortened, HMAC}
-use Rattle.hash.specs.Sha256.{SHA256}
+use Rattle.padding.specs.Padding.{pad}
+use Rattle.compression.specs.declared.Working.{Working}
+use Rattle.hash.specs.Sha256.{valueAfter, digest, SHA256}
 use Rattle.hash.proofs.Laws.{length-SHA256}
+use Rattle.hash.proofs.Hashed.{digest-value}
 
 drop-replicate : (n m : ℕ) → drop n (replicate {A = ℕ} m 0) ≡ replicate (m - n) 0
 drop-replicate zero m = let e : m - zero ≡ m = omega arith in rw e
@@ -62,10 +65,13 @@ length-masked key x =
     let n : length (filled (shortened key)) ≡ 64 = length-filled (shortened key) (length-shortened key) in
     length-xor (filled (shortened key)) (replicate 64 x) (n ∙ sym (length-replicate 64 x)) ∙ n
 
--- HMAC from the hash values that it goes on from: the inner and the outer hash
-pub two-hashes : (key head tail last n r : List ℕ)
-    → n ≡ SHA256 ((filled (shortened key) ⊕ replicate 64 0x36) ++ (head ++ (tail ++ (last ++ []))))
-    → r ≡ SHA256 ((filled (shortened key) ⊕ replicate 64 0x5c) ++ (n ++ []))
+-- HMAC from the hash values that it goes on from: the inner hash value v, whose bytes are the inner hash, and the outer hash
+pub two-hashes : (key head tail last r : List ℕ) (v : Working)
+    → v ≡ valueAfter (pad ((filled (shortened key) ⊕ replicate 64 0x36) ++ (head ++ (tail ++ (last ++ [])))))
+    → r ≡ SHA256 ((filled (shortened key) ⊕ replicate 64 0x5c) ++ digest v)
     → r ≡ HMAC key (head ++ (tail ++ last))
 unfolding HMAC
-two-hashes key head tail last n r g k = k ∙ rw (append-nil, g, append-nil)
+two-hashes key head tail last r v g k =
+    let text : List ℕ = (filled (shortened key) ⊕ replicate 64 0x36) ++ (head ++ (tail ++ (last ++ []))) in
+    let inner : digest v ≡ SHA256 text = ap digest g ∙ digest-value text in
+    k ∙ rw (inner, append-nil)

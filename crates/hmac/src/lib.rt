@@ -4,7 +4,8 @@
 mod key;
 
 use compression::Working;
-use hash::digest_after;
+use hash::digest_of_value;
+use hash::state_after;
 use key::key_block;
 use key::masked;
 use key::value_of;
@@ -33,13 +34,13 @@ pub fn ready_key(key: &[u8]) -> Keyed
 }
 
 // HMAC with SHA-256, under the key that was made ready, of the three parts one after another. With the key's block they are hashed as one message,
-// so they are shorter than 2^64 bits together. No part is copied.
+// so they are shorter than 2^64 bits together. No more than a block of them is copied at a time.
 pub fn hmac_under(key: Keyed, head: &[u8], tail: &[u8], last: &[u8]) -> [u8; 32]
     requires { ⌜ 64 + (length (now head) + length (now tail) + length (now last)) < 2 ^ 61 ⌝ }
     ensures { λ r. ⌜ ((k : List ℕ) → key ≡ keyedBy k → r ≡ HMAC k (now (head .entry) ++ (now (tail .entry) ++ now (last .entry)))) ⌝ }
 {
-    let inner = digest_after(key.inner, 64, head, tail, last, b"");
-    digest_after(key.outer, 64, &inner, b"", b"", b"")
+    let inner = state_after(key.inner, 64, head, tail, last, b"");
+    digest_of_value(key.outer, inner)
 }
 
 // HMAC with SHA-256, under the key, of the three parts one after another.

@@ -9,45 +9,26 @@ use borrow.Author.Needs.{needs}
 use Rattle.hmac.proofs.hmac_under.Statement.{statement}
 use Rattle.hmac.proofs.hmac_under.Tie as tie
 
-slice-aggregate-digest-after : tie.Need-slice-aggregate-digest-after
-slice-aggregate-digest-after c = search needs
+slice-aggregate-state-after : tie.Need-slice-aggregate-state-after
+slice-aggregate-state-after c = search needs
 
-digest-after-requires : tie.Need-digest-after-requires
-digest-after-requires c κs = search needs
+state-after-requires : tie.Need-state-after-requires
+state-after-requires c κs = search needs
 
-slice-aggregate-digest-after-2 : tie.Need-slice-aggregate-digest-after-2
-slice-aggregate-digest-after-2 c = search needs
-
-slice-aggregate-digest-after-3 : tie.Need-slice-aggregate-digest-after-3
-slice-aggregate-digest-after-3 c = search needs
-
-slice-aggregate-digest-after-4 : tie.Need-slice-aggregate-digest-after-4
-slice-aggregate-digest-after-4 c = search needs
-
-slice-aggregate-digest-after-5 : tie.Need-slice-aggregate-digest-after-5
-slice-aggregate-digest-after-5 c = search needs
-
-digest-after-requires-2 : tie.Need-digest-after-requires-2
-digest-after-requires-2 c κs = search needs
+digest-of-value-requires : tie.Need-digest-of-value-requires
+digest-of-value-requires c κs = search needs
 
 returns : tie.Need-returns
 unfolding keyedBy
 returns c = λ k e.
-    let inner = c .before .before .before .before .before .digest-after in
-    let a = c .before .before .before .before .before .before .before .before .before .before .args in
-    two-hashes k (now (a .head)) (now (a .tail)) (now (a .last)) (inner .result) (c .digest-after2 .result)
+    let a = c .before .before .before .before .before .before .args in
+    let inner = c .before .state-after in
+    let outer = c .digest-of-value in
+    two-hashes k (now (a .head)) (now (a .tail)) (now (a .last)) (outer .result) (inner .result)
     (inner .ensures (filled (shortened k) ⊕ ipad) (length-masked k 0x36) (ap (λ (h : Keyed). h .inner) e))
-    (c .digest-after2 .ensures (filled (shortened k) ⊕ opad) (length-masked k 0x5c) (ap (λ (h : Keyed). h .outer) e))
+    (outer .ensures (filled (shortened k) ⊕ opad) (length-masked k 0x5c) (ap (λ (h : Keyed). h .outer) e))
 
 pub hmac-under-spec : {M : Type 1} → statement M
 hmac-under-spec =
     tie.close
-    (tie.spec
-    slice-aggregate-digest-after
-    digest-after-requires
-    slice-aggregate-digest-after-2
-    slice-aggregate-digest-after-3
-    slice-aggregate-digest-after-4
-    slice-aggregate-digest-after-5
-    digest-after-requires-2
-    returns)
+    (tie.spec slice-aggregate-state-after state-after-requires digest-of-value-requires returns)
