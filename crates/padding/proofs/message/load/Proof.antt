@@ -22,10 +22,6 @@ fits start =
     let a = start .args in
     omega (arith, followed-fits (a .before) (now (a .first)) (now (a .head)) (now (a .tail)) (now (a .last)) (start .pre .0 .1) (omega arith))
 
--- the words of a block that was laid out
-from-bytes : (start : tie.Start) (b w : List ℕ) → b ≡ blockAt (whole start) (64 * start .args .i) → w ≡ wordsAt b 0 → w ≡ block (whole start) (start .args .i)
-from-bytes start b w e f = f ∙ rw e (block-words-of (whole start) (64 * start .args .i) (start .pre .1 .0)) ∙ block-words (whole start) (start .args .i)
-
 mul-at : tie.Need-mul-at
 mul-at c = omega (arith, fits (c .before .before .before .before))
 
@@ -58,37 +54,21 @@ returns-2 c =
     c .words-at2 .ensures
     ∙ block-tail (a .before) (now (a .first)) (now (a .head)) (now (a .tail)) (now (a .last)) (a .i) (c .before .before .before .if2 .taken) (c .before .before .if3 .taken)
 
-laid-out-requires : tie.Need-laid-out-requires
-laid-out-requires c κs =
-    let start = c .before .before .before .before .before .before .before in
-    (start .pre .0 .0, (start .pre .0 .1, omega (arith, fits start)))
-
-slice-aggregate-words-at : tie.Need-slice-aggregate-words-at
-slice-aggregate-words-at c = search needs
-
-words-at-requires-3 : tie.Need-words-at-requires-3
-words-at-requires-3 c κs = search needs
+laid-words-requires : tie.Need-laid-words-requires
+laid-words-requires c κs =
+    let start = c .before .before .before .before .before .before .before .before in
+    ((start .pre .0 .0, (start .pre .0 .1, omega (arith, fits start))), start .pre .1)
 
 returns-3 : tie.Need-returns-3
-returns-3 c =
-    let start = c .before .before .before .before .before .before .before .before .before .before .before in
-    from-bytes start (c .before .before .before .laid-out .result) _ (c .before .before .before .laid-out .ensures) (c .words-at3 .ensures)
+returns-3 c = c .laid-words .ensures ∙ block-words _ _
 
-laid-out-requires-2 : tie.Need-laid-out-requires-2
-laid-out-requires-2 c κs =
-    let start = c .before .before .before .before .before .before in
-    (start .pre .0 .0, (start .pre .0 .1, omega (arith, fits start)))
-
-slice-aggregate-words-at-2 : tie.Need-slice-aggregate-words-at-2
-slice-aggregate-words-at-2 c = search needs
-
-words-at-requires-4 : tie.Need-words-at-requires-4
-words-at-requires-4 c κs = search needs
+laid-words-requires-2 : tie.Need-laid-words-requires-2
+laid-words-requires-2 c κs =
+    let start = c .before .before .before .before .before .before .before in
+    ((start .pre .0 .0, (start .pre .0 .1, omega (arith, fits start))), start .pre .1)
 
 returns-4 : tie.Need-returns-4
-returns-4 c =
-    let start = c .before .before .before .before .before .before .before .before .before .before in
-    from-bytes start (c .before .before .before .laid-out2 .result) _ (c .before .before .before .laid-out2 .ensures) (c .words-at4 .ensures)
+returns-4 c = c .laid-words2 .ensures ∙ block-words _ _
 
 pub load-spec : {M : Type 1} → statement M
 load-spec =
@@ -103,11 +83,7 @@ load-spec =
     add-if3-2
     words-at-requires-2
     returns-2
-    laid-out-requires
-    slice-aggregate-words-at
-    words-at-requires-3
+    laid-words-requires
     returns-3
-    laid-out-requires-2
-    slice-aggregate-words-at-2
-    words-at-requires-4
+    laid-words-requires-2
     returns-4)
