@@ -2,11 +2,10 @@
 use mathlib.Core.Path.{_≡_, refl, sym, ap, _∙_}
 use mathlib.Core.List.{List}
 use Prim.Native.Nat.{ℕ, _+_, _-_, _*_, _%_, _≤_, _<_}
-use native.Mathlib.Nat.{zero-add, add-assoc}
+use native.Mathlib.Nat.{add-zero, add-assoc}
 use native.Mathlib.Numerals.{add-one}
 use native.Mathlib.Omega.{arith}
-use lib.ListN.{length, getD, take, drop}
-use lib.Seq.{getD-take, getD-drop}
+use lib.ListN.{length, getD}
 use Rattle.message_schedule.specs.Schedule.{W}
 use Rattle.message_schedule.specs.Window.{Holds, Made}
 use Rattle.message_schedule.proofs.Words.{W-first}
@@ -34,13 +33,27 @@ _▹_ {n} {m} {t} first second =
     }
 
 infixl 50 _▹_
--- one pass of sixteen more
-pub pass-more : {w w₁ w₂ : List ℕ} {v v₁ v₂ : Working} (p : ℕ) → Taken (16 * p) 0 w w₁ v v₁ → Taken 16 (16 * p) w₁ w₂ v₁ v₂
-    → Taken (16 * (p + 1)) 0 w w₂ v v₂
-pass-more {w} {w₁} {w₂} {v} {v₁} {v₂} p before pass =
-    let next : Taken 16 (0 + 16 * p) w₁ w₂ v₁ v₂ = rw zero-add pass in
-    let more : 16 * p + 16 ≡ 16 * (p + 1) = omega arith in
-    rw more at (before ▹ next)
+-- sixteen turns, one after another
+pub sixteen : (t : ℕ) {w₀ w₁ w₂ w₃ w₄ w₅ w₆ w₇ w₈ w₉ w₁₀ w₁₁ w₁₂ w₁₃ w₁₄ w₁₅ w₁₆ : List ℕ} {v₀ v₁ v₂ v₃ v₄ v₅ v₆ v₇ v₈ v₉ v₁₀ v₁₁ v₁₂ v₁₃ v₁₄ v₁₅ v₁₆ : Working}
+    → Taken 1 (t + 0) w₀ w₁ v₀ v₁
+    → Taken 1 (t + 1) w₁ w₂ v₁ v₂
+    → Taken 1 (t + 2) w₂ w₃ v₂ v₃
+    → Taken 1 (t + 3) w₃ w₄ v₃ v₄
+    → Taken 1 (t + 4) w₄ w₅ v₄ v₅
+    → Taken 1 (t + 5) w₅ w₆ v₅ v₆
+    → Taken 1 (t + 6) w₆ w₇ v₆ v₇
+    → Taken 1 (t + 7) w₇ w₈ v₇ v₈
+    → Taken 1 (t + 8) w₈ w₉ v₈ v₉
+    → Taken 1 (t + 9) w₉ w₁₀ v₉ v₁₀
+    → Taken 1 (t + 10) w₁₀ w₁₁ v₁₀ v₁₁
+    → Taken 1 (t + 11) w₁₁ w₁₂ v₁₁ v₁₂
+    → Taken 1 (t + 12) w₁₂ w₁₃ v₁₂ v₁₃
+    → Taken 1 (t + 13) w₁₃ w₁₄ v₁₃ v₁₄
+    → Taken 1 (t + 14) w₁₄ w₁₅ v₁₄ v₁₅
+    → Taken 1 (t + 15) w₁₅ w₁₆ v₁₅ v₁₆
+    → Taken 16 t w₀ w₁₆ v₀ v₁₆
+sixteen t s₀ s₁ s₂ s₃ s₄ s₅ s₆ s₇ s₈ s₉ s₁₀ s₁₁ s₁₂ s₁₃ s₁₄ s₁₅ =
+    rw add-zero at s₀ ▹ s₁ ▹ s₂ ▹ s₃ ▹ s₄ ▹ s₅ ▹ s₆ ▹ s₇ ▹ s₈ ▹ s₉ ▹ s₁₀ ▹ s₁₁ ▹ s₁₂ ▹ s₁₃ ▹ s₁₄ ▹ s₁₅
 
 -- the 64 turns of a block, from its words on
 pub taken-all : (w w′ : List ℕ) (H v r : Working) → length w ≡ 16 → Taken 64 0 w w′ H v → r ≡ added v H
@@ -51,7 +64,3 @@ taken-all w w′ H v r sixteen all e =
     λ s l u. (let place : s % 16 ≡ s = omega arith in rw place (sym (W-first w sixteen s (omega arith)))) in
     let end = all .leads w H sixteen (sixteen, start) refl in
     (e ∙ rw (end .1), end .0 .0)
-
--- a constant of a pass
-pub constant-at : (k : List ℕ) (n j : ℕ) → j < 16 → k ≡ take 16 (drop n K) → getD k j 0 ≡ getD K (n + j) 0
-constant-at k n j h e = rw (e, getD-take 16 (drop n K) j 0 h, getD-drop)
