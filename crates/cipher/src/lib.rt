@@ -6,6 +6,7 @@ use rounds::inv_cipher;
 use substitution::inv_sub_table;
 use substitution::sub_table;
 ghost use mathlib.Core.Path.{_≡_};
+ghost use Rattle.words.specs.Words.{bytesOf};
 ghost use Rattle.key_schedule.specs.Expansion.{KeyExpansion};
 ghost use Rattle.cipher.specs.Aes.{AES128, InvAES128, AES256};
 
@@ -20,17 +21,17 @@ pub fn encrypt(key: [u8; 16], block: [u8; 16]) -> [u8; 16]
     ensures { λ r. ⌜ r ≡ AES128 key block ⌝ }
 {
     let table = sub_table();
-    let mut keys = [0u8; 176];
+    let mut keys = [0u32; 44];
     expand(&table, 4, 40, &key, &mut keys);
     cipher(&table, &keys, 10, block)
 }
 
 // The key schedule of AES-128. Its box is off the stack when it returns.
-fn schedule128(key: [u8; 16]) -> [u8; 176]
-    ensures { λ r. ⌜ r ≡ KeyExpansion 4 10 key ⌝ }
+fn schedule128(key: [u8; 16]) -> [u32; 44]
+    ensures { λ r. ⌜ bytesOf r ≡ KeyExpansion 4 10 key ⌝ }
 {
     let table = sub_table();
-    let mut keys = [0u8; 176];
+    let mut keys = [0u32; 44];
     expand(&table, 4, 40, &key, &mut keys);
     keys
 }
@@ -49,7 +50,7 @@ pub fn encrypt256(key: [u8; 32], block: [u8; 16]) -> [u8; 16]
     ensures { λ r. ⌜ r ≡ AES256 key block ⌝ }
 {
     let table = sub_table();
-    let mut keys = [0u8; 240];
+    let mut keys = [0u32; 60];
     expand(&table, 8, 52, &key, &mut keys);
     cipher(&table, &keys, 14, block)
 }
@@ -59,7 +60,7 @@ pub fn encrypt_pair(key: [u8; 16], first: [u8; 16], second: [u8; 16]) -> Blocks
     ensures { λ r. ⌜ (r .first ≡ AES128 key first) × (r .second ≡ AES128 key second) ⌝ }
 {
     let table = sub_table();
-    let mut keys = [0u8; 176];
+    let mut keys = [0u32; 44];
     expand(&table, 4, 40, &key, &mut keys);
     let one = cipher(&table, &keys, 10, first);
     let two = cipher(&table, &keys, 10, second);
@@ -88,7 +89,7 @@ pub fn encrypt256_pair(key: [u8; 32], first: [u8; 16], second: [u8; 16]) -> Bloc
     ensures { λ r. ⌜ (r .first ≡ AES256 key first) × (r .second ≡ AES256 key second) ⌝ }
 {
     let table = sub_table();
-    let mut keys = [0u8; 240];
+    let mut keys = [0u32; 60];
     expand(&table, 8, 52, &key, &mut keys);
     let one = cipher(&table, &keys, 14, first);
     let two = cipher(&table, &keys, 14, second);

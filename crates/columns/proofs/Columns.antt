@@ -11,6 +11,7 @@ use lib.Dec.{T, lit<}
 use lib.ListN.{getD}
 use lib.Pow.{pow-pos}
 use Rattle.laws.specs.Bytes.{bigEndian, number, numberAfter}
+use Rattle.words.proofs.Words.{joined, number-joined, bytes-number, byte₀, byte₁, byte₂, byte₃, B₀, B₁, B₂, B₃}
 use Rattle.laws.proofs.Table.{sameBelow, below}
 use Rattle.laws.proofs.Xor.{xor-exchange, Additive, additive-agree}
 use Rattle.substitution.specs.Field.{xtime, xtimes, bit, productBelow, _•_}
@@ -74,14 +75,6 @@ mask m x y = and-xor x y m
 
 -- ---- words of four bytes
 
--- four bytes as the digits of a word
-abbrev joined : ℕ → ℕ → ℕ → ℕ → ℕ
-joined a b c d = ((a * 256 + b) * 256 + c) * 256 + d
-
-number-joined : (a b c d : ℕ) → number (a ∷ b ∷ c ∷ d ∷ []) ≡ joined a b c d
-unfolding number numberAfter
-number-joined a b c d = omega arith
-
 joined-xor : (a b c d a′ b′ c′ d′ : ℕ) → b < 256 → c < 256 → d < 256 → b′ < 256 → c′ < 256 → d′ < 256
     → joined (bitXor a a′) (bitXor b b′) (bitXor c c′) (bitXor d d′) ≡ bitXor (joined a b c d) (joined a′ b′ c′ d′)
 joined-xor a b c d a′ b′ c′ d′ hb hc hd hb′ hc′ hd′ =
@@ -99,41 +92,13 @@ module _ (p q r s : ℕ → ℕ) (P : Additive p) (Q : Additive q) (R : Additive
       (joined-xor (p x) (q x) (r x) (s x) (p y) (q y) (r y) (s y) (hq x) (hr x) (hs x) (hq y) (hr y) (hs y)
       ∙ sym (ap₂ bitXor (number-joined (p x) (q x) (r x) (s x)) (number-joined (p y) (q y) (r y) (s y))))
 
--- the bytes of a word
-abbrev byte₀ : ℕ → ℕ
-byte₀ w = w / 256 / 256 / 256 % 256
-
-abbrev byte₁ : ℕ → ℕ
-byte₁ w = w / 256 / 256 % 256
-
-abbrev byte₂ : ℕ → ℕ
-byte₂ w = w / 256 % 256
-
-abbrev byte₃ : ℕ → ℕ
-byte₃ w = w % 256
-
-low : Additive (λ w. w % 256)
-low x y = xor-mod x y 8
-
-next : (f : ℕ → ℕ) → Additive f → Additive (λ w. f (w / 256))
-next f F = after f (λ w. w / 256) F (right 8)
-
-B₂ : Additive byte₂
-B₂ = next (λ w. w % 256) low
-
-B₁ : Additive byte₁
-B₁ = next byte₂ B₂
-
-B₀ : Additive byte₀
-B₀ = next byte₁ B₁
-
 -- ---- each byte of a word
 
 pub each-additive : (f : ℕ → ℕ) → Additive f → ((b : ℕ) → f b < 256) → Additive (eachByte f)
 unfolding eachByte bigEndian
 each-additive f F h =
     packed (λ w. f (byte₀ w)) (λ w. f (byte₁ w)) (λ w. f (byte₂ w)) (λ w. f (byte₃ w)) (after f byte₀ F B₀) (after f byte₁ F B₁) (after f byte₂ F B₂)
-    (after f byte₃ F low) (λ w. h (byte₁ w)) (λ w. h (byte₂ w)) (λ w. h (byte₃ w))
+    (after f byte₃ F B₃) (λ w. h (byte₁ w)) (λ w. h (byte₂ w)) (λ w. h (byte₃ w))
 
 -- ---- a mixed column
 
@@ -166,8 +131,8 @@ module _ (a₀ a₁ a₂ a₃ : ℕ) (h₀ : a₀ < 256) (h₁ : a₁ < 256) (h�
   mixed-additive =
       packed (λ w. mixes (byte₀ w) (byte₁ w) (byte₂ w) (byte₃ w)) (λ w. mixes (byte₁ w) (byte₂ w) (byte₃ w) (byte₀ w))
       (λ w. mixes (byte₂ w) (byte₃ w) (byte₀ w) (byte₁ w)) (λ w. mixes (byte₃ w) (byte₀ w) (byte₁ w) (byte₂ w))
-      (mixes-additive byte₀ byte₁ byte₂ byte₃ B₀ B₁ B₂ low) (mixes-additive byte₁ byte₂ byte₃ byte₀ B₁ B₂ low B₀)
-      (mixes-additive byte₂ byte₃ byte₀ byte₁ B₂ low B₀ B₁) (mixes-additive byte₃ byte₀ byte₁ byte₂ low B₀ B₁ B₂)
+      (mixes-additive byte₀ byte₁ byte₂ byte₃ B₀ B₁ B₂ B₃) (mixes-additive byte₁ byte₂ byte₃ byte₀ B₁ B₂ B₃ B₀)
+      (mixes-additive byte₂ byte₃ byte₀ byte₁ B₂ B₃ B₀ B₁) (mixes-additive byte₃ byte₀ byte₁ byte₂ B₃ B₀ B₁ B₂)
       (λ w. mixes-below (byte₁ w) (byte₂ w) (byte₃ w) (byte₀ w)) (λ w. mixes-below (byte₂ w) (byte₃ w) (byte₀ w) (byte₁ w))
       (λ w. mixes-below (byte₃ w) (byte₀ w) (byte₁ w) (byte₂ w))
 
@@ -257,17 +222,6 @@ unmixing-additive =
 pub unmixing-word : (w : ℕ) → w < 2 ^ 32 → unmixing w ≡ mixedWord 0x0e 0x09 0x0d 0x0b w
 unfolding mixedWord mixedByte eachByte bigEndian number numberAfter _•_ productBelow bit xtimes xtime
 unmixing-word = words-agree unmixing (mixedWord 0x0e 0x09 0x0d 0x0b) unmixing-additive (mixed-additive 0x0e 0x09 0x0d 0x0b (lit< tt) (lit< tt) (lit< tt) (lit< tt)) tt
-
--- ---- the bytes of a word of four bytes
-
-pub bytes-number : (a b c d : ℕ) → a < 256 → b < 256 → c < 256 → d < 256 → bigEndian 4 (number (a ∷ b ∷ c ∷ d ∷ [])) ≡ a ∷ b ∷ c ∷ d ∷ []
-unfolding bigEndian
-bytes-number a b c d ha hb hc hd =
-    let e₀ : joined a b c d / 256 / 256 / 256 % 256 ≡ a = omega arith in
-    let e₁ : joined a b c d / 256 / 256 % 256 ≡ b = omega arith in
-    let e₂ : joined a b c d / 256 % 256 ≡ c = omega arith in
-    let e₃ : joined a b c d % 256 ≡ d = omega arith in
-    rw (number-joined a b c d, e₀, e₁, e₂, e₃)
 
 module _ (a₀ a₁ a₂ a₃ : ℕ) (h₀ : a₀ < 256) (h₁ : a₁ < 256) (h₂ : a₂ < 256) (h₃ : a₃ < 256) where
   -- a column through its word

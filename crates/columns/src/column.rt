@@ -1,28 +1,9 @@
 // A column of the state in a word, its first byte highest: its four bytes doubled at once, and mixed each way (FIPS 197, §5.1.3 and §5.3.3).
 ghost use mathlib.Core.Path.{_≡_};
-ghost use mathlib.Core.List.{[], _∷_};
-ghost use Rattle.laws.specs.Bytes.{bigEndian, number};
 ghost use Rattle.substitution.specs.Field.{_•_};
 ghost use Rattle.columns.specs.Columns.{eachByte, mixedColumn, mixedWord};
-
-// The word of four bytes.
-fn word_of(a: u8, b: u8, c: u8, d: u8) -> u32
-    ensures { λ r. ⌜ r ≡ number (a ∷ b ∷ c ∷ d ∷ []) ⌝ }
-{
-    a as u32 * 16777216 + b as u32 * 65536 + c as u32 * 256 + d as u32
-}
-
-// The four bytes of a word.
-fn bytes_of(w: u32) -> [u8; 4]
-    ensures { λ r. ⌜ r ≡ bigEndian 4 w ⌝ }
-{
-    [
-        ((w / 16777216) % 256) as u8,
-        ((w / 65536) % 256) as u8,
-        ((w / 256) % 256) as u8,
-        (w % 256) as u8,
-    ]
-}
+use words::bytes_of;
+use words::word_of;
 
 // Each byte times 02. The digit that leaves a byte comes back as 1b.
 fn doubled(w: u32) -> u32

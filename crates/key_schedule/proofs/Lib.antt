@@ -1,3 +1,4 @@
 pub mod Words
 pub mod Phases
+pub mod Fours
 pub mod Expansion

@@ -1,24 +1,20 @@
-// The key expansion of FIPS 197, §5.2, over Nk: keys of 4 Nk bytes.
+// The key expansion of FIPS 197, §5.2, in words, for keys of 4 or 8 words: four words at a time, of which the first alone asks for the box.
 ghost use mathlib.Core.Path.{_≡_};
-ghost use mathlib.Core.List.{List, _++_};
+ghost use mathlib.Core.List.{List, [], _∷_, _++_};
 ghost use Prim.Native.Nat.{ℕ, _+_, _-_, _*_, _/_, _%_, _≤_, _<_};
 ghost use lib.ListN.{length, take, drop};
-ghost use Rattle.laws.specs.Bytes.{_⊕_};
+ghost use Rattle.laws.specs.Bytes.{bigEndian, number};
+ghost use Rattle.words.specs.Words.{bytesOf};
 ghost use Rattle.substitution.specs.Field.{xtimes};
 ghost use Rattle.substitution.specs.Box.{SBox, TableOf};
-ghost use Rattle.key_schedule.specs.Expansion.{expanded, temp, word, SubWord};
+ghost use Rattle.key_schedule.specs.Expansion.{expanded, temp, word};
+ghost use Rattle.key_schedule.specs.Fours.{Fours};
 use substitution::times_two;
+use words::bytes_of;
+use words::word_of;
 
-// The word that starts at a byte of the schedule.
-pub fn word_at(w: &[u8], at: usize) -> [u8; 4]
-    requires { ⌜ at + 4 ≤ length (now w) ⌝ }
-    ensures { λ r. ⌜ r ≡ take 4 (drop at (now (w .entry))) ⌝ }
-{
-    [w[at], w[at + 1], w[at + 2], w[at + 3]]
-}
-
-// The word stored from a byte of the schedule on.
-pub fn put_word(w: &mut [u8], at: usize, a: [u8; 4])
+// Four words stored from a place of the schedule on.
+fn put_four(w: &mut [u32], at: usize, a: [u32; 4])
     requires { ⌜ at + 4 ≤ length (now w) ⌝ }
     ensures { λ r. ⌜ now (w .exit) ≡ take at (now (w .entry)) ++ a ++ drop (at + 4) (now (w .entry)) ⌝ }
 {
@@ -28,86 +24,84 @@ pub fn put_word(w: &mut [u8], at: usize, a: [u8; 4])
     w[at + 3] = a[3];
 }
 
-// Each byte of a word looked up in the box.
-pub fn sub_word(table: &[u8; 256], a: [u8; 4]) -> [u8; 4]
+// The word of four bytes, each looked up in the box.
+fn sub_word(table: &[u8; 256], a: u8, b: u8, c: u8, d: u8) -> u32
     requires { ⌜ TableOf SBox (now table) ⌝ }
-    ensures { λ r. ⌜ r ≡ SubWord a ⌝ }
+    ensures { λ r. ⌜ r ≡ number (SBox a ∷ SBox b ∷ SBox c ∷ SBox d ∷ []) ⌝ }
 {
-    [
-        table[a[0] as usize],
-        table[a[1] as usize],
-        table[a[2] as usize],
-        table[a[3] as usize],
-    ]
+    word_of(
+        table[a as usize],
+        table[b as usize],
+        table[c as usize],
+        table[d as usize],
+    )
 }
 
-// What is added to word n to make word Nk + n, from the word before it. The caller counts n in turns of Nk: phase is n modulo Nk, and the
-// constant is the first byte of Rcon for the turn.
-pub fn added(table: &[u8; 256], nk: usize, phase: usize, constant: u8, previous: [u8; 4]) -> [u8; 4]
+// What is added to word n to make word Nk + n, the first of four, from the word before it. The caller counts n in turns of Nk: phase is n modulo
+// Nk, and the constant is the first byte of Rcon for the turn.
+fn added(table: &[u8; 256], phase: usize, constant: u8, previous: u32) -> u32
     requires { ⌜ TableOf SBox (now table) ⌝ }
-    ensures { λ r. ⌜ ((w : List ℕ) (n : ℕ) → 1 ≤ nk → word w (n + nk - 1) ≡ previous → phase ≡ n % nk → constant ≡ xtimes (n / nk) 1 → r ≡ temp nk w (n + nk)) ⌝ }
+    ensures { λ r. ⌜ ((Nk n : ℕ) (w : List ℕ) → Fours Nk n → word w (n + Nk - 1) ≡ bigEndian 4 previous → phase ≡ n % Nk → constant ≡ xtimes (n / Nk) 1 → bigEndian 4 r ≡ temp Nk w (n + Nk)) ⌝ }
 {
+    let p = bytes_of(previous);
     if phase == 0 {
-        let s = sub_word(table, [previous[1], previous[2], previous[3], previous[0]]);
-        return [s[0] ^ constant, s[1], s[2], s[3]];
+        let s = sub_word(table, p[1], p[2], p[3], p[0]);
+        return s ^ word_of(constant, 0, 0, 0);
     }
-    if 6 < nk {
-        if phase == 4 {
-            return sub_word(table, previous);
-        }
-    }
-    previous
+    sub_word(table, p[0], p[1], p[2], p[3])
 }
 
-// Two words added.
-pub fn sum(a: [u8; 4], b: [u8; 4]) -> [u8; 4]
-    ensures { λ r. ⌜ r ≡ a ⊕ b ⌝ }
+// The phase of the next four words.
+fn next_phase(nk: usize, phase: usize) -> usize
+    requires { ⌜ phase ≤ 8 ⌝ }
+    ensures { λ r. ⌜ ((n : ℕ) → Fours nk n → phase ≡ n % nk → r ≡ (n + 4) % nk) ⌝ }
 {
-    [a[0] ^ b[0], a[1] ^ b[1], a[2] ^ b[2], a[3] ^ b[3]]
+    if phase + 4 < nk { phase + 4 } else { 0 }
 }
 
-// The phase of the next word.
-pub fn next_phase(nk: usize, phase: usize) -> usize
-    requires { ⌜ 1 ≤ nk ⌝ }
-    ensures { λ r. ⌜ ((n : ℕ) → phase ≡ n % nk → r ≡ (n + 1) % nk) ⌝ }
+// The constant of the next four words' turn.
+fn next_constant(nk: usize, phase: usize, constant: u8) -> u8
+    requires { ⌜ phase ≤ 8 ⌝ }
+    ensures { λ r. ⌜ ((n : ℕ) → Fours nk n → phase ≡ n % nk → constant ≡ xtimes (n / nk) 1 → r ≡ xtimes ((n + 4) / nk) 1) ⌝ }
 {
-    if phase < nk - 1 { phase + 1 } else { 0 }
-}
-
-// The constant of the next word's turn.
-pub fn next_constant(nk: usize, phase: usize, constant: u8) -> u8
-    requires { ⌜ 1 ≤ nk ⌝ }
-    ensures { λ r. ⌜ ((n : ℕ) → phase ≡ n % nk → constant ≡ xtimes (n / nk) 1 → r ≡ xtimes ((n + 1) / nk) 1) ⌝ }
-{
-    if phase < nk - 1 {
+    if phase + 4 < nk {
         constant
     } else {
         times_two(constant)
     }
 }
 
-// The key schedule into lent bytes: the key of 4 Nk bytes, and then `more` words, one after the other.
-pub fn expand(table: &[u8; 256], nk: usize, more: usize, key: &[u8], w: &mut [u8])
-    requires { ⌜ TableOf SBox (now table) ⌝ }
-    requires { ⌜ (1 ≤ nk) × ((nk ≤ 8) × (more ≤ 60)) ⌝ }
-    requires { ⌜ (length (now key) ≡ 4 * nk) × (length (now w) ≡ 4 * nk + 4 * more) ⌝ }
-    ensures { λ r. ⌜ now (w .exit) ≡ expanded nk more (now (key .entry)) ⌝ }
+// The key as the schedule's first Nk words.
+fn put_key(nk: usize, key: &[u8], w: &mut [u32])
+    requires { ⌜ (nk ≤ 8) × ((length (now key) ≡ 4 * nk) × (nk ≤ length (now w))) ⌝ }
+    ensures { λ r. ⌜ bytesOf (take nk (now (w .exit))) ≡ now (key .entry) ⌝ }
 {
     let mut k: usize = 0;
-    while k < key.len() {
-        w[k] = key[k];
+    while k < nk {
+        w[k] = word_of(key[4 * k], key[4 * k + 1], key[4 * k + 2], key[4 * k + 3]);
         k += 1;
     }
+}
+
+// The key schedule into lent words: the key's Nk words, and then `more` words, four after four.
+pub fn expand(table: &[u8; 256], nk: usize, more: usize, key: &[u8], w: &mut [u32])
+    requires { ⌜ TableOf SBox (now table) ⌝ }
+    requires { ⌜ (Fours nk more) × (more ≤ 60) ⌝ }
+    requires { ⌜ (length (now key) ≡ 4 * nk) × (length (now w) ≡ nk + more) ⌝ }
+    ensures { λ r. ⌜ bytesOf (now (w .exit)) ≡ expanded nk more (now (key .entry)) ⌝ }
+{
+    put_key(nk, key, w);
     let mut phase: usize = 0;
     let mut constant: u8 = 1;
     let mut n: usize = 0;
     while n < more {
-        let previous = word_at(w, 4 * (nk + n) - 4);
-        let t = added(table, nk, phase, constant, previous);
-        let next = sum(word_at(w, 4 * n), t);
-        put_word(w, 4 * (nk + n), next);
+        let a = w[n] ^ added(table, phase, constant, w[nk + n - 1]);
+        let b = w[n + 1] ^ a;
+        let c = w[n + 2] ^ b;
+        let d = w[n + 3] ^ c;
+        put_four(w, nk + n, [a, b, c, d]);
         constant = next_constant(nk, phase, constant);
         phase = next_phase(nk, phase);
-        n += 1;
+        n += 4;
     }
 }

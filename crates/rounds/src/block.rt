@@ -3,6 +3,7 @@ ghost use mathlib.Core.Path.{_≡_};
 ghost use Prim.Native.Nat.{_+_, _*_, _≤_};
 ghost use lib.ListN.{length};
 ghost use Rattle.substitution.specs.Box.{SBox, InvSBox, TableOf};
+ghost use Rattle.words.specs.Words.{bytesOf};
 ghost use Rattle.rounds.specs.Rounds.{Cipher, InvCipher};
 use steps::forward::add_round_key;
 use steps::forward::mix_columns;
@@ -13,10 +14,10 @@ use steps::inverse::inv_shift_rows;
 use steps::inverse::inv_sub_bytes;
 
 // The block encrypted under the key schedule.
-pub fn cipher(table: &[u8; 256], keys: &[u8], nr: usize, block: [u8; 16]) -> [u8; 16]
+pub fn cipher(table: &[u8; 256], keys: &[u32], nr: usize, block: [u8; 16]) -> [u8; 16]
     requires { ⌜ TableOf SBox (now table) ⌝ }
-    requires { ⌜ (1 ≤ nr) × ((nr ≤ 14) × (length (now keys) ≡ 16 * (nr + 1))) ⌝ }
-    ensures { λ r. ⌜ r ≡ Cipher nr (now (keys .entry)) block ⌝ }
+    requires { ⌜ (1 ≤ nr) × ((nr ≤ 14) × (length (now keys) ≡ 4 * (nr + 1))) ⌝ }
+    ensures { λ r. ⌜ r ≡ Cipher nr (bytesOf (now (keys .entry))) block ⌝ }
 {
     let mut s = add_round_key(keys, 0, block);
     let mut n: usize = 0;
@@ -29,10 +30,10 @@ pub fn cipher(table: &[u8; 256], keys: &[u8], nr: usize, block: [u8; 16]) -> [u8
 }
 
 // The block decrypted under the key schedule.
-pub fn inv_cipher(table: &[u8; 256], keys: &[u8], nr: usize, block: [u8; 16]) -> [u8; 16]
+pub fn inv_cipher(table: &[u8; 256], keys: &[u32], nr: usize, block: [u8; 16]) -> [u8; 16]
     requires { ⌜ TableOf InvSBox (now table) ⌝ }
-    requires { ⌜ (1 ≤ nr) × ((nr ≤ 14) × (length (now keys) ≡ 16 * (nr + 1))) ⌝ }
-    ensures { λ r. ⌜ r ≡ InvCipher nr (now (keys .entry)) block ⌝ }
+    requires { ⌜ (1 ≤ nr) × ((nr ≤ 14) × (length (now keys) ≡ 4 * (nr + 1))) ⌝ }
+    ensures { λ r. ⌜ r ≡ InvCipher nr (bytesOf (now (keys .entry))) block ⌝ }
 {
     let mut s = add_round_key(keys, nr, block);
     let mut n: usize = nr - 1;

@@ -4,8 +4,11 @@ ghost use Prim.Native.Nat.{_+_, _*_, _≤_};
 ghost use lib.ListN.{length};
 ghost use Rattle.steps.specs.Steps.{SubBytes, ShiftRows, MixColumns, AddRoundKey};
 ghost use Rattle.substitution.specs.Box.{SBox, TableOf};
+ghost use Rattle.words.specs.Words.{bytesOf};
 use columns::mixed_column;
 use substitution::look_up;
+use words::state_of;
+use words::word_of;
 
 // The box is lent, as a table.
 pub fn sub_bytes(table: &[u8; 256], s: [u8; 16]) -> [u8; 16]
@@ -65,16 +68,16 @@ pub fn mix_columns(s: [u8; 16]) -> [u8; 16]
     ]
 }
 
-pub fn add_round_key(keys: &[u8], round: usize, s: [u8; 16]) -> [u8; 16]
-    requires { ⌜ 16 * round + 16 ≤ length (now keys) ⌝ }
-    ensures { λ r. ⌜ r ≡ AddRoundKey (now (keys .entry)) round s ⌝ }
+// The key schedule is lent in words.
+pub fn add_round_key(keys: &[u32], round: usize, s: [u8; 16]) -> [u8; 16]
+    requires { ⌜ 4 * round + 4 ≤ length (now keys) ⌝ }
+    ensures { λ r. ⌜ r ≡ AddRoundKey (bytesOf (now (keys .entry))) round s ⌝ }
 {
-    let start = 16 * round;
-    let mut out = [0u8; 16];
-    let mut i: usize = 0;
-    while i < 16 {
-        out[i] = s[i] ^ keys[start + i];
-        i += 1;
-    }
-    out
+    let at = 4 * round;
+    state_of(
+        word_of(s[0], s[1], s[2], s[3]) ^ keys[at],
+        word_of(s[4], s[5], s[6], s[7]) ^ keys[at + 1],
+        word_of(s[8], s[9], s[10], s[11]) ^ keys[at + 2],
+        word_of(s[12], s[13], s[14], s[15]) ^ keys[at + 3],
+    )
 }

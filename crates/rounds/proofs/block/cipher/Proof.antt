@@ -5,93 +5,73 @@ use Prim.Native.Nat.{ℕ, _-_, _≤_}
 use native.Mathlib.Omega.{arith}
 use borrow.Author.Needs.{needs}
 use denote.Ref.{now}
+use Rattle.words.specs.Words.{bytesOf}
 use Rattle.steps.specs.Steps.{AddRoundKey}
 use Rattle.rounds.specs.Rounds.{rounds, Cipher}
 use Rattle.rounds.proofs.Rounds.{rounds-zero, rounds-step}
 use Rattle.rounds.proofs.block.cipher.Statement.{statement}
 use Rattle.rounds.proofs.block.cipher.Tie as tie
-use Rattle.rounds.proofs.block.cipher.Reads as reads
-use Rattle.rounds.proofs.block.cipher.Lts as lts
-use Rattle.steps.proofs.forward.add_round_key.Reads as add-round-key-reads
-use Rattle.steps.proofs.forward.mix_columns.Reads as mix-columns-reads
-use Rattle.steps.proofs.forward.shift_rows.Reads as shift-rows-reads
-use Rattle.steps.proofs.forward.sub_bytes.Reads as sub-bytes-reads
 
 abbrev Inv-loop : tie.InvT-loop
-Inv-loop table keys nr s₀ n₀ s n = (n ≤ nr - 1) × ((block : List ℕ) → s₀ ≡ AddRoundKey keys 0 block → s ≡ rounds keys n block)
+Inv-loop table keys nr s₀ n₀ s n = (n ≤ nr - 1) × ((block : List ℕ) → s₀ ≡ AddRoundKey (bytesOf keys) 0 block → s ≡ rounds (bytesOf keys) n block)
 
 abbrev μ-loop : tie.MeasureT-loop
 μ-loop table keys nr s₀ n₀ s n = nr - 1 - n
 
--- src/block.rt:21:9
 add-round-key-requires : tie.Need-add-round-key-requires Inv-loop μ-loop
 add-round-key-requires c κs = search needs
 
--- src/block.rt:23:5
 loop-holds : tie.Need-loop-holds Inv-loop μ-loop
-loop-holds c = (search needs, λ block e. e ∙ sym (rounds-zero (now (c .before .before .args .keys)) block))
+loop-holds c = (search needs, λ block e. e ∙ sym (rounds-zero (bytesOf (now (c .before .before .args .keys))) block))
 
--- src/block.rt:23:15
 sub-loop : tie.Need-sub-loop Inv-loop μ-loop
 sub-loop c = search needs
 
--- src/block.rt:24:40
 add-add-round-key : tie.Need-add-add-round-key Inv-loop μ-loop
 add-add-round-key c = search needs
 
--- src/block.rt:24:70
 sub-bytes-requires : tie.Need-sub-bytes-requires Inv-loop μ-loop
 sub-bytes-requires c κs = search needs
 
--- src/block.rt:24:59
 shift-rows-requires : tie.Need-shift-rows-requires Inv-loop μ-loop
 shift-rows-requires c κs = search needs
 
--- src/block.rt:24:47
 mix-columns-requires : tie.Need-mix-columns-requires Inv-loop μ-loop
 mix-columns-requires c κs = search needs
 
--- src/block.rt:24:13
 add-round-key-requires-2 : tie.Need-add-round-key-requires-2 Inv-loop μ-loop
 add-round-key-requires-2 c κs = search needs
 
--- src/block.rt:26:9
 add-n : tie.Need-add-n Inv-loop μ-loop
 add-n c = search needs
 
--- src/block.rt:23:5
 loop-less : tie.Need-loop-less Inv-loop μ-loop
 loop-less c = search needs
 
--- src/block.rt:23:5
 loop-again : tie.Need-loop-again Inv-loop μ-loop
 loop-again c =
     let l = c .before .before .before .before .before .loop in
-    let keys = now (c .before .before .before .before .before .before .before .before .args .keys) in (
+    let keys = bytesOf (now (c .before .before .before .before .before .before .before .before .args .keys)) in (
       search needs,
       λ block e. let r : l .s ≡ rounds keys (l .n) block = l .inv .1 block e in cc (rounds-step keys block (l .n)),
     )
 
--- src/block.rt:28:40
 sub-bytes-requires-2 : tie.Need-sub-bytes-requires-2 Inv-loop μ-loop
 sub-bytes-requires-2 c κs = search needs
 
--- src/block.rt:28:29
 shift-rows-requires-2 : tie.Need-shift-rows-requires-2 Inv-loop μ-loop
 shift-rows-requires-2 c κs = search needs
 
--- src/block.rt:28:5
 add-round-key-requires-3 : tie.Need-add-round-key-requires-3 Inv-loop μ-loop
 add-round-key-requires-3 c κs = search needs
 
--- src/block.rt:16:1
 returns : tie.Need-returns Inv-loop μ-loop
 unfolding Cipher
 returns c =
     let l = c .before .before .before .before .loop in
     let a = c .before .before .before .before .before .before .before .args in
     let all : l .n ≡ a .nr - 1 = omega arith in
-    let r : l .s ≡ rounds (now (a .keys)) (l .n) (a .block) = l .inv .1 (a .block) (c .before .before .before .before .before .add-round-key .ensures) in
+    let r : l .s ≡ rounds (bytesOf (now (a .keys))) (l .n) (a .block) = l .inv .1 (a .block) (c .before .before .before .before .before .add-round-key .ensures) in
     cc
 
 pub cipher-spec : {M : Type 1} → statement M

@@ -4,85 +4,66 @@ use Prim.Native.Nat.{_+_, _-_, _≤_}
 use native.Mathlib.Omega.{arith}
 use borrow.Author.Needs.{needs}
 use denote.Ref.{now}
+use Rattle.words.specs.Words.{bytesOf}
 use Rattle.rounds.specs.Rounds.{invRounds, InvCipher}
 use Rattle.rounds.proofs.Rounds.{invRounds-zero, invRounds-step}
 use Rattle.rounds.proofs.block.inv_cipher.Statement.{statement}
 use Rattle.rounds.proofs.block.inv_cipher.Tie as tie
-use Rattle.rounds.proofs.block.inv_cipher.Reads as reads
-use Rattle.rounds.proofs.block.inv_cipher.Lts as lts
-use Rattle.steps.proofs.inverse.inv_mix_columns.Reads as inv-mix-columns-reads
-use Rattle.steps.proofs.inverse.inv_shift_rows.Reads as inv-shift-rows-reads
-use Rattle.steps.proofs.inverse.inv_sub_bytes.Reads as inv-sub-bytes-reads
-use Rattle.steps.proofs.forward.add_round_key.Reads as add-round-key-reads
 
 abbrev Inv-loop : tie.InvT-loop
-Inv-loop table keys nr s₀ n₀ s n = (n ≤ nr - 1) × (invRounds keys n s ≡ invRounds keys (nr - 1) s₀)
+Inv-loop table keys nr s₀ n₀ s n = (n ≤ nr - 1) × (invRounds (bytesOf keys) n s ≡ invRounds (bytesOf keys) (nr - 1) s₀)
 
 abbrev μ-loop : tie.MeasureT-loop
 μ-loop table keys nr s₀ n₀ s n = n
 
--- src/block.rt:37:9
 add-round-key-requires : tie.Need-add-round-key-requires Inv-loop μ-loop
 add-round-key-requires c κs = search needs
 
--- src/block.rt:38:24
 sub-n : tie.Need-sub-n Inv-loop μ-loop
 sub-n c = search needs
 
--- src/block.rt:39:5
 loop-holds : tie.Need-loop-holds Inv-loop μ-loop
 loop-holds c = (search needs, refl)
 
--- src/block.rt:40:80
 inv-shift-rows-requires : tie.Need-inv-shift-rows-requires Inv-loop μ-loop
 inv-shift-rows-requires c κs = search needs
 
--- src/block.rt:40:59
 inv-sub-bytes-requires : tie.Need-inv-sub-bytes-requires Inv-loop μ-loop
 inv-sub-bytes-requires c κs = search needs
 
--- src/block.rt:40:36
 add-round-key-requires-2 : tie.Need-add-round-key-requires-2 Inv-loop μ-loop
 add-round-key-requires-2 c κs = search needs
 
--- src/block.rt:40:13
 inv-mix-columns-requires : tie.Need-inv-mix-columns-requires Inv-loop μ-loop
 inv-mix-columns-requires c κs = search needs
 
--- src/block.rt:42:9
 sub-n-2 : tie.Need-sub-n-2 Inv-loop μ-loop
 sub-n-2 c = search needs
 
--- src/block.rt:39:5
 loop-less : tie.Need-loop-less Inv-loop μ-loop
 loop-less c = search needs
 
--- src/block.rt:39:5
 loop-again : tie.Need-loop-again Inv-loop μ-loop
 loop-again c =
     let l = c .before .before .before .before .before .loop in
     let one : l .n - 1 + 1 ≡ l .n = omega arith in
-    (search needs, cc (invRounds-step (now (c .before .before .before .before .before .before .before .before .args .keys)) (l .s) (l .n - 1)))
+    (search needs, cc (invRounds-step (bytesOf (now (c .before .before .before .before .before .before .before .before .args .keys))) (l .s) (l .n - 1)))
 
--- src/block.rt:44:49
 inv-shift-rows-requires-2 : tie.Need-inv-shift-rows-requires-2 Inv-loop μ-loop
 inv-shift-rows-requires-2 c κs = search needs
 
--- src/block.rt:44:28
 inv-sub-bytes-requires-2 : tie.Need-inv-sub-bytes-requires-2 Inv-loop μ-loop
 inv-sub-bytes-requires-2 c κs = search needs
 
--- src/block.rt:44:5
 add-round-key-requires-3 : tie.Need-add-round-key-requires-3 Inv-loop μ-loop
 add-round-key-requires-3 c κs = search needs
 
--- src/block.rt:32:1
 returns : tie.Need-returns Inv-loop μ-loop
 unfolding InvCipher
 returns c =
     let l = c .before .before .before .before .loop in
     let none : l .n ≡ 0 = omega arith in
-    cc (invRounds-zero (now (c .before .before .before .before .before .before .before .args .keys)) (l .s))
+    cc (invRounds-zero (bytesOf (now (c .before .before .before .before .before .before .before .args .keys))) (l .s))
 
 pub inv-cipher-spec : {M : Type 1} → statement M
 inv-cipher-spec =

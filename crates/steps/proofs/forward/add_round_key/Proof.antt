@@ -1,76 +1,167 @@
--- `steps::forward::add_round_key` meets its contract: the loop fills the next state from the front.
-use mathlib.Core.Path.{_≡_, refl, sym, _∙_}
-use Prim.Native.Nat.{_-_, _≤_, _<_}
-use native.Mathlib.Omega.{arith}
+-- `steps::forward::add_round_key` adds the four words of a round key to those of the state.
+use mathlib.Core.Path.{_≡_, sym, ap, _∙_}
+use denote.Ref.{now}
+use lib.ListN.{length, getD}
+use mir.Syntax.{w8}
+use mir.Val.{Fits}
+use Rattle.words.specs.Words.{bytesOf}
+use Rattle.steps.specs.Steps.{AddRoundKey}
+use Rattle.steps.proofs.State.{in-words, keyed}
 use borrow.Author.Needs.{needs}
-use lib.ListN.{length, replicate}
-use Rattle.laws.proofs.Tabulate.{filledTo, filled-none, filled-turn, filled-all}
-use Rattle.steps.proofs.State.{keyPlace, key-tabulate}
 use Rattle.steps.proofs.forward.add_round_key.Statement.{statement}
 use Rattle.steps.proofs.forward.add_round_key.Tie as tie
 
-abbrev Inv-loop : tie.InvT-loop
-Inv-loop keys round s start out₀ i₀ out i = (i ≤ 16) × (out ≡ filledTo i (keyPlace keys round s) (replicate 16 0))
+mul-at : tie.Need-mul-at
+mul-at c = search needs
 
-abbrev μ-loop : tie.MeasureT-loop
-μ-loop keys round s start out₀ i₀ out i = 16 - i
+array-read-word-of : tie.Need-array-read-word-of
+array-read-word-of c = search needs
 
-mul-start : tie.Need-mul-start Inv-loop μ-loop
-mul-start c = omega arith
+array-read-word-of-2 : tie.Need-array-read-word-of-2
+array-read-word-of-2 c = search needs
 
-loop-holds : tie.Need-loop-holds Inv-loop μ-loop
-loop-holds c = (search needs, filled-none (keyPlace (c .args .keys .now) (c .args .round) (c .args .t3)) (replicate 16 0))
+array-read-word-of-3 : tie.Need-array-read-word-of-3
+array-read-word-of-3 c = search needs
 
-array-read-out : tie.Need-array-read-out Inv-loop μ-loop
-array-read-out c = search needs
+array-read-word-of-4 : tie.Need-array-read-word-of-4
+array-read-word-of-4 c = search needs
 
-add-out : tie.Need-add-out Inv-loop μ-loop
-add-out c = omega arith
+word-of-requires : tie.Need-word-of-requires
+word-of-requires c κs = search needs
 
-shared-slice-read-out : tie.Need-shared-slice-read-out Inv-loop μ-loop
-shared-slice-read-out c = omega arith
+mul-state-of : tie.Need-mul-state-of
+mul-state-of c = search needs
 
-array-write-out : tie.Need-array-write-out Inv-loop μ-loop
-array-write-out c = search needs
+shared-slice-read-state-of : tie.Need-shared-slice-read-state-of
+shared-slice-read-state-of c = search needs
 
-add-i : tie.Need-add-i Inv-loop μ-loop
-add-i c = omega arith
+array-read-word-of-5 : tie.Need-array-read-word-of-5
+array-read-word-of-5 c = search needs
 
-loop-less : tie.Need-loop-less Inv-loop μ-loop
-loop-less c = omega arith
+array-read-word-of-6 : tie.Need-array-read-word-of-6
+array-read-word-of-6 c = search needs
 
-loop-again : tie.Need-loop-again Inv-loop μ-loop
-loop-again c =
-    let h : c .before .before .loop .i < 16 = search needs in (
-      search needs,
-      filled-turn
-          (keyPlace (c .before .before .before .args .keys .now) (c .before .before .before .args .round) (c .before .before .before .args .t3))
-          (replicate 16 0) (c .before .before .loop .out) (c .before .before .loop .i) _ 0 h (c .before .before .loop .inv .1) refl,
-    )
+array-read-word-of-7 : tie.Need-array-read-word-of-7
+array-read-word-of-7 c = search needs
 
-returns : tie.Need-returns Inv-loop μ-loop
+array-read-word-of-8 : tie.Need-array-read-word-of-8
+array-read-word-of-8 c = search needs
+
+word-of-requires-2 : tie.Need-word-of-requires-2
+word-of-requires-2 c κs = search needs
+
+add-state-of : tie.Need-add-state-of
+add-state-of c = search needs
+
+mul-state-of-2 : tie.Need-mul-state-of-2
+mul-state-of-2 c = search needs
+
+shared-slice-read-state-of-2 : tie.Need-shared-slice-read-state-of-2
+shared-slice-read-state-of-2 c = search needs
+
+array-read-word-of-9 : tie.Need-array-read-word-of-9
+array-read-word-of-9 c = search needs
+
+array-read-word-of-10 : tie.Need-array-read-word-of-10
+array-read-word-of-10 c = search needs
+
+array-read-word-of-11 : tie.Need-array-read-word-of-11
+array-read-word-of-11 c = search needs
+
+array-read-word-of-12 : tie.Need-array-read-word-of-12
+array-read-word-of-12 c = search needs
+
+word-of-requires-3 : tie.Need-word-of-requires-3
+word-of-requires-3 c κs = search needs
+
+add-state-of-2 : tie.Need-add-state-of-2
+add-state-of-2 c = search needs
+
+mul-state-of-3 : tie.Need-mul-state-of-3
+mul-state-of-3 c = search needs
+
+shared-slice-read-state-of-3 : tie.Need-shared-slice-read-state-of-3
+shared-slice-read-state-of-3 c = search needs
+
+array-read-word-of-13 : tie.Need-array-read-word-of-13
+array-read-word-of-13 c = search needs
+
+array-read-word-of-14 : tie.Need-array-read-word-of-14
+array-read-word-of-14 c = search needs
+
+array-read-word-of-15 : tie.Need-array-read-word-of-15
+array-read-word-of-15 c = search needs
+
+array-read-word-of-16 : tie.Need-array-read-word-of-16
+array-read-word-of-16 c = search needs
+
+word-of-requires-4 : tie.Need-word-of-requires-4
+word-of-requires-4 c κs = search needs
+
+add-state-of-3 : tie.Need-add-state-of-3
+add-state-of-3 c = search needs
+
+mul-state-of-4 : tie.Need-mul-state-of-4
+mul-state-of-4 c = search needs
+
+shared-slice-read-state-of-4 : tie.Need-shared-slice-read-state-of-4
+shared-slice-read-state-of-4 c = search needs
+
+state-of-requires : tie.Need-state-of-requires
+state-of-requires c κs = search needs
+
+returns : tie.Need-returns
 returns c =
-    let n : length (c .before .before .args .t3) ≡ 16 = search needs in
-    let e : c .before .loop .i ≡ 16 = omega arith in
-    (rw e at (c .before .loop .inv .1))
-    ∙ filled-all (keyPlace (c .before .before .args .keys .now) (c .before .before .args .round) (c .before .before .args .t3))
-    (replicate 16 0) 16 (search needs)
-    ∙ sym (key-tabulate (c .before .before .args .keys .now) (c .before .before .args .round) (c .before .before .args .t3) n
-    (c .before .before .pre))
+    let start = c .before .before .before .before .before .before .before .before .before .before in
+    let a = start .args in
+    let w = now (a .keys) in
+    let long : length (a .t3) ≡ 16 = search needs in
+    c .state-of .ensures
+    ∙ rw (
+      c .before .before .before .before .before .before .before .before .word-of .ensures,
+      c .before .before .before .before .before .before .word-of2 .ensures,
+      c .before .before .before .before .word-of3 .ensures,
+      c .before .before .word-of4 .ensures,
+    )
+    (sym
+    (ap (AddRoundKey (bytesOf w) (a .round)) (in-words (a .t3) long (λ i. let f : Fits w8 (getD (a .t3) i 0) = search needs in f .fits))
+    ∙ keyed w (a .round) _ _ _ _ (start .pre)))
 
 pub add-round-key-spec : {M : Type 1} → statement M
 add-round-key-spec =
     tie.close
     (tie.spec
-    Inv-loop
-    μ-loop
-    mul-start
-    loop-holds
-    array-read-out
-    add-out
-    shared-slice-read-out
-    array-write-out
-    add-i
-    loop-less
-    loop-again
+    mul-at
+    array-read-word-of
+    array-read-word-of-2
+    array-read-word-of-3
+    array-read-word-of-4
+    word-of-requires
+    mul-state-of
+    shared-slice-read-state-of
+    array-read-word-of-5
+    array-read-word-of-6
+    array-read-word-of-7
+    array-read-word-of-8
+    word-of-requires-2
+    add-state-of
+    mul-state-of-2
+    shared-slice-read-state-of-2
+    array-read-word-of-9
+    array-read-word-of-10
+    array-read-word-of-11
+    array-read-word-of-12
+    word-of-requires-3
+    add-state-of-2
+    mul-state-of-3
+    shared-slice-read-state-of-3
+    array-read-word-of-13
+    array-read-word-of-14
+    array-read-word-of-15
+    array-read-word-of-16
+    word-of-requires-4
+    add-state-of-3
+    mul-state-of-4
+    shared-slice-read-state-of-4
+    state-of-requires
     returns)

@@ -1,9 +1,9 @@
--- `columns::column::word_of` gives the number of four bytes.
+-- `words::word_of` gives the number of four bytes.
 use native.Mathlib.Omega.{arith}
 use Rattle.laws.specs.Bytes.{number, numberAfter}
 use borrow.Author.Needs.{needs}
-use Rattle.columns.proofs.column.word_of.Statement.{statement}
-use Rattle.columns.proofs.column.word_of.Tie as tie
+use Rattle.words.proofs.word_of.Statement.{statement}
+use Rattle.words.proofs.word_of.Tie as tie
 
 mul-result : tie.Need-mul-result
 mul-result c = search needs

@@ -1,9 +1,9 @@
--- `columns::column::bytes_of` gives the four bytes of a word.
-use native.Mathlib.Nat.{div-one, div-div-eq-div-mul}
+-- `words::bytes_of` gives the four bytes of a word.
+use native.Mathlib.Nat.{div-div-eq-div-mul}
 use Rattle.laws.specs.Bytes.{bigEndian}
 use borrow.Author.Needs.{needs}
-use Rattle.columns.proofs.column.bytes_of.Statement.{statement}
-use Rattle.columns.proofs.column.bytes_of.Tie as tie
+use Rattle.words.proofs.bytes_of.Statement.{statement}
+use Rattle.words.proofs.bytes_of.Tie as tie
 
 cast-t4 : tie.Need-cast-t4
 cast-t4 c = search needs
@@ -20,7 +20,7 @@ cast-t12 c = search needs
 returns : tie.Need-returns
 unfolding bigEndian
 returns c =
-    simp (div-div-eq-div-mul, div-one)
+    simp div-div-eq-div-mul
 
 pub bytes-of-spec : {M : Type 1} → statement M
 bytes-of-spec = tie.close (tie.spec cast-t4 cast-t7 cast-t10 cast-t12 returns)

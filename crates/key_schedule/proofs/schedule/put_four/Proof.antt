@@ -1,13 +1,16 @@
--- `key_schedule::schedule::put_word` meets its contract: four stores in a row.
+-- `key_schedule::schedule::put_four` meets its contract: four stores in a row.
 use native.Mathlib.Omega.{arith}
 use lib.ListN.{length-set}
 use Rattle.key_schedule.proofs.Words.{word-stored}
 use borrow.Author.Needs.{needs}
-use Rattle.key_schedule.proofs.schedule.put_word.Statement.{statement}
-use Rattle.key_schedule.proofs.schedule.put_word.Tie as tie
+use Rattle.key_schedule.proofs.schedule.put_four.Statement.{statement}
+use Rattle.key_schedule.proofs.schedule.put_four.Tie as tie
 
 array-read-w : tie.Need-array-read-w
 array-read-w c = search needs
+
+mul-w : tie.Need-mul-w
+mul-w c = search needs
 
 slice-write-w : tie.Need-slice-write-w
 slice-write-w c = search needs
@@ -18,6 +21,9 @@ array-read-w-2 c = search needs
 add-w : tie.Need-add-w
 add-w c = search needs
 
+mul-w-2 : tie.Need-mul-w-2
+mul-w-2 c = search needs
+
 slice-write-w-2 : tie.Need-slice-write-w-2
 slice-write-w-2 c = simp length-set (omega arith)
 
@@ -26,6 +32,9 @@ array-read-w-3 c = search needs
 
 add-w-2 : tie.Need-add-w-2
 add-w-2 c = search needs
+
+mul-w-3 : tie.Need-mul-w-3
+mul-w-3 c = search needs
 
 slice-write-w-3 : tie.Need-slice-write-w-3
 slice-write-w-3 c = simp length-set (omega arith)
@@ -36,6 +45,9 @@ array-read-w-4 c = search needs
 add-w-3 : tie.Need-add-w-3
 add-w-3 c = search needs
 
+mul-w-4 : tie.Need-mul-w-4
+mul-w-4 c = search needs
+
 slice-write-w-4 : tie.Need-slice-write-w-4
 slice-write-w-4 c = simp length-set (omega arith)
 
@@ -45,20 +57,24 @@ same-length c = search needs
 returns : tie.Need-returns
 returns c = word-stored (c .args .w .now) (c .args .t3) (c .args .at) (c .pre) (search needs)
 
-pub put-word-spec : {M : Type 1} → statement M
-put-word-spec =
+pub put-four-spec : {M : Type 1} → statement M
+put-four-spec =
     tie.close
     (tie.spec
     array-read-w
+    mul-w
     slice-write-w
     array-read-w-2
     add-w
+    mul-w-2
     slice-write-w-2
     array-read-w-3
     add-w-2
+    mul-w-3
     slice-write-w-3
     array-read-w-4
     add-w-3
+    mul-w-4
     slice-write-w-4
     same-length
     returns)
