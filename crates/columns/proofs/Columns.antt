@@ -17,6 +17,7 @@ use Rattle.laws.proofs.Xor.{xor-exchange, Additive, additive-agree}
 use Rattle.substitution.specs.Field.{xtime, xtimes, bit, productBelow, _•_}
 use Rattle.substitution.proofs.Bytes.{product-below}
 use Rattle.substitution.proofs.Linear.{product-additive}
+use Rattle.columns.specs.Turned.{shl, turned}
 use Rattle.columns.specs.Columns.{mixedByte, eachByte, mixedColumn, mixedWord}
 
 -- ---- what respects XOR
@@ -138,15 +139,12 @@ module _ (a₀ a₁ a₂ a₃ : ℕ) (h₀ : a₀ < 256) (h₁ : a₁ < 256) (h�
 
 -- ---- words that agree at the powers of 2
 
-words-agree : (f g : ℕ → ℕ) → Additive f → Additive g → T (sameBelow (λ i. f (2 ^ i) ∷ []) (λ i. g (2 ^ i) ∷ []) 32) → (w : ℕ) → w < 2 ^ 32 → f w ≡ g w
+pub words-agree : (f g : ℕ → ℕ) → Additive f → Additive g → T (sameBelow (λ i. f (2 ^ i) ∷ []) (λ i. g (2 ^ i) ∷ []) 32) → (w : ℕ) → w < 2 ^ 32 → f w ≡ g w
 words-agree f g F G t w h =
     additive-agree f g F G 32
     (λ i p. ap (λ (l : List ℕ). getD l 0 0) (below (λ j. f (2 ^ j) ∷ []) (λ j. g (2 ^ j) ∷ []) 32 t i p)) w h
 
 -- ---- doubling, as the code does it
-
-abbrev shl : ℕ → ℕ → ℕ
-shl k x = x * 2 ^ k % 2 ^ 32
 
 abbrev high : ℕ → ℕ
 high w = bitAnd (w / 2 ^ 7) 0x01010101
@@ -179,17 +177,13 @@ doubled-word = words-agree shifted twice shifted-additive T₂ tt
 
 -- ---- mixing, as the code does it
 
--- a word turned to the left by k digits
-abbrev turned : ℕ → ℕ → ℕ
-turned k x = bitXor (shl k x) (x / 2 ^ (32 - k))
-
-turned-additive : (k : ℕ) → Additive (turned k)
+pub turned-additive : (k : ℕ) → Additive (turned k)
 turned-additive k = both (shl k) (λ x. x / 2 ^ (32 - k)) (left k) (right (32 - k))
 
 abbrev mixing : ℕ → ℕ
 mixing w = bitXor (bitXor (bitXor (twice w) (turned 8 (bitXor (twice w) w))) (turned 16 w)) (turned 24 w)
 
-same : Additive (λ x. x)
+pub same : Additive (λ x. x)
 same x y = refl
 
 thrice-additive : Additive (λ w. bitXor (twice w) w)
@@ -222,6 +216,16 @@ unmixing-additive =
 pub unmixing-word : (w : ℕ) → w < 2 ^ 32 → unmixing w ≡ mixedWord 0x0e 0x09 0x0d 0x0b w
 unfolding mixedWord mixedByte eachByte bigEndian number numberAfter _•_ productBelow bit xtimes xtime
 unmixing-word = words-agree unmixing (mixedWord 0x0e 0x09 0x0d 0x0b) unmixing-additive (mixed-additive 0x0e 0x09 0x0d 0x0b (lit< tt) (lit< tt) (lit< tt) (lit< tt)) tt
+
+module _ (a₀ a₁ a₂ a₃ : ℕ) (h₀ : a₀ < 256) (h₁ : a₁ < 256) (h₂ : a₂ < 256) (h₃ : a₃ < 256) where
+  -- the bytes of a column that is mixed in its word
+  pub word-mixed : (w : ℕ)
+      → bigEndian 4 (mixedWord a₀ a₁ a₂ a₃ w)
+      ≡ mixedColumn a₀ a₁ a₂ a₃ (getD (bigEndian 4 w) 0 0) (getD (bigEndian 4 w) 1 0) (getD (bigEndian 4 w) 2 0) (getD (bigEndian 4 w) 3 0)
+  unfolding mixedWord
+  word-mixed w =
+      let below = mixes-below a₀ a₁ a₂ a₃ h₀ h₁ h₂ h₃ in
+      bytes-number _ _ _ _ (below _ _ _ _) (below _ _ _ _) (below _ _ _ _) (below _ _ _ _)
 
 module _ (a₀ a₁ a₂ a₃ : ℕ) (h₀ : a₀ < 256) (h₁ : a₁ < 256) (h₂ : a₂ < 256) (h₃ : a₃ < 256) where
   -- a column through its word

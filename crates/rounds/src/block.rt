@@ -5,24 +5,26 @@ ghost use lib.ListN.{length};
 ghost use Rattle.substitution.specs.Box.{SBox, InvSBox, TableOf};
 ghost use Rattle.words.specs.Words.{bytesOf};
 ghost use Rattle.rounds.specs.Rounds.{Cipher, InvCipher};
+use column_tables::mixed_table;
+use full_rounds::full_round;
 use steps::forward::add_round_key;
-use steps::forward::mix_columns;
 use steps::forward::shift_rows;
 use steps::forward::sub_bytes;
 use steps::inverse::inv_mix_columns;
 use steps::inverse::inv_shift_rows;
 use steps::inverse::inv_sub_bytes;
 
-// The block encrypted under the key schedule.
+// The block encrypted under the key schedule. Full rounds go by the table of mixed columns, the last one by the box, which is lent.
 pub fn cipher(table: &[u8; 256], keys: &[u32], nr: usize, block: [u8; 16]) -> [u8; 16]
     requires { ⌜ TableOf SBox (now table) ⌝ }
     requires { ⌜ (1 ≤ nr) × ((nr ≤ 14) × (length (now keys) ≡ 4 * (nr + 1))) ⌝ }
     ensures { λ r. ⌜ r ≡ Cipher nr (bytesOf (now (keys .entry))) block ⌝ }
 {
+    let columns = mixed_table();
     let mut s = add_round_key(keys, 0, block);
     let mut n: usize = 0;
     while n < nr - 1 {
-        let next = add_round_key(keys, n + 1, mix_columns(shift_rows(sub_bytes(table, s))));
+        let next = full_round(&columns, keys, n + 1, s);
         s = next;
         n += 1;
     }

@@ -13,34 +13,29 @@ use Rattle.rounds.proofs.block.cipher.Statement.{statement}
 use Rattle.rounds.proofs.block.cipher.Tie as tie
 
 abbrev Inv-loop : tie.InvT-loop
-Inv-loop table keys nr s₀ n₀ s n = (n ≤ nr - 1) × ((block : List ℕ) → s₀ ≡ AddRoundKey (bytesOf keys) 0 block → s ≡ rounds (bytesOf keys) n block)
+Inv-loop table keys nr columns s₀ n₀ s n =
+    (n ≤ nr - 1) × ((block : List ℕ) → s₀ ≡ AddRoundKey (bytesOf keys) 0 block → s ≡ rounds (bytesOf keys) n block)
 
 abbrev μ-loop : tie.MeasureT-loop
-μ-loop table keys nr s₀ n₀ s n = nr - 1 - n
+μ-loop table keys nr columns s₀ n₀ s n = nr - 1 - n
+
+mixed-table-requires : tie.Need-mixed-table-requires Inv-loop μ-loop
+mixed-table-requires c κs = search needs
 
 add-round-key-requires : tie.Need-add-round-key-requires Inv-loop μ-loop
 add-round-key-requires c κs = search needs
 
 loop-holds : tie.Need-loop-holds Inv-loop μ-loop
-loop-holds c = (search needs, λ block e. e ∙ sym (rounds-zero (bytesOf (now (c .before .before .args .keys))) block))
+loop-holds c = (search needs, λ block e. e ∙ sym (rounds-zero (bytesOf (now (c .before .before .before .args .keys))) block))
 
 sub-loop : tie.Need-sub-loop Inv-loop μ-loop
 sub-loop c = search needs
 
-add-add-round-key : tie.Need-add-add-round-key Inv-loop μ-loop
-add-add-round-key c = search needs
+add-full-round : tie.Need-add-full-round Inv-loop μ-loop
+add-full-round c = search needs
 
-sub-bytes-requires : tie.Need-sub-bytes-requires Inv-loop μ-loop
-sub-bytes-requires c κs = search needs
-
-shift-rows-requires : tie.Need-shift-rows-requires Inv-loop μ-loop
-shift-rows-requires c κs = search needs
-
-mix-columns-requires : tie.Need-mix-columns-requires Inv-loop μ-loop
-mix-columns-requires c κs = search needs
-
-add-round-key-requires-2 : tie.Need-add-round-key-requires-2 Inv-loop μ-loop
-add-round-key-requires-2 c κs = search needs
+full-round-requires : tie.Need-full-round-requires Inv-loop μ-loop
+full-round-requires c κs = search needs
 
 add-n : tie.Need-add-n Inv-loop μ-loop
 add-n c = search needs
@@ -50,26 +45,26 @@ loop-less c = search needs
 
 loop-again : tie.Need-loop-again Inv-loop μ-loop
 loop-again c =
-    let l = c .before .before .before .before .before .loop in
-    let keys = bytesOf (now (c .before .before .before .before .before .before .before .before .args .keys)) in (
+    let l = c .before .before .before .loop in
+    let keys = bytesOf (now (c .before .before .before .before .before .before .before .args .keys)) in (
       search needs,
       λ block e. let r : l .s ≡ rounds keys (l .n) block = l .inv .1 block e in cc (rounds-step keys block (l .n)),
     )
 
-sub-bytes-requires-2 : tie.Need-sub-bytes-requires-2 Inv-loop μ-loop
-sub-bytes-requires-2 c κs = search needs
+sub-bytes-requires : tie.Need-sub-bytes-requires Inv-loop μ-loop
+sub-bytes-requires c κs = search needs
 
-shift-rows-requires-2 : tie.Need-shift-rows-requires-2 Inv-loop μ-loop
-shift-rows-requires-2 c κs = search needs
+shift-rows-requires : tie.Need-shift-rows-requires Inv-loop μ-loop
+shift-rows-requires c κs = search needs
 
-add-round-key-requires-3 : tie.Need-add-round-key-requires-3 Inv-loop μ-loop
-add-round-key-requires-3 c κs = search needs
+add-round-key-requires-2 : tie.Need-add-round-key-requires-2 Inv-loop μ-loop
+add-round-key-requires-2 c κs = search needs
 
 returns : tie.Need-returns Inv-loop μ-loop
 unfolding Cipher
 returns c =
     let l = c .before .before .before .before .loop in
-    let a = c .before .before .before .before .before .before .before .args in
+    let a = c .before .before .before .before .before .before .before .before .args in
     let all : l .n ≡ a .nr - 1 = omega arith in
     let r : l .s ≡ rounds (bytesOf (now (a .keys))) (l .n) (a .block) = l .inv .1 (a .block) (c .before .before .before .before .before .add-round-key .ensures) in
     cc
@@ -80,18 +75,16 @@ cipher-spec =
     (tie.spec
     Inv-loop
     μ-loop
+    mixed-table-requires
     add-round-key-requires
     loop-holds
     sub-loop
-    add-add-round-key
-    sub-bytes-requires
-    shift-rows-requires
-    mix-columns-requires
-    add-round-key-requires-2
+    add-full-round
+    full-round-requires
     add-n
     loop-less
     loop-again
-    sub-bytes-requires-2
-    shift-rows-requires-2
-    add-round-key-requires-3
+    sub-bytes-requires
+    shift-rows-requires
+    add-round-key-requires-2
     returns)
