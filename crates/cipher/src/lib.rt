@@ -1,5 +1,6 @@
 // AES (FIPS 197): one block of 16 bytes, each way under a key of 16 bytes, and encrypted under one of 32. Both are uses of one key expansion over Nk
 // and one cipher over Nr. Where two blocks follow one another under a key, its schedule is made once.
+use inverse_keys::unmix_keys;
 use key_schedule::expand;
 use rounds::cipher;
 use rounds::inv_cipher;
@@ -40,7 +41,8 @@ fn schedule128(key: [u8; 16]) -> [u32; 44]
 pub fn decrypt(key: [u8; 16], block: [u8; 16]) -> [u8; 16]
     ensures { λ r. ⌜ r ≡ InvAES128 key block ⌝ }
 {
-    let keys = schedule128(key);
+    let mut keys = schedule128(key);
+    unmix_keys(10, &mut keys);
     let inverse = inv_sub_table();
     inv_cipher(&inverse, &keys, 10, block)
 }
@@ -74,7 +76,8 @@ pub fn encrypt_pair(key: [u8; 16], first: [u8; 16], second: [u8; 16]) -> Blocks
 pub fn decrypt_pair(key: [u8; 16], first: [u8; 16], second: [u8; 16]) -> Blocks
     ensures { λ r. ⌜ (r .first ≡ InvAES128 key first) × (r .second ≡ InvAES128 key second) ⌝ }
 {
-    let keys = schedule128(key);
+    let mut keys = schedule128(key);
+    unmix_keys(10, &mut keys);
     let inverse = inv_sub_table();
     let one = inv_cipher(&inverse, &keys, 10, first);
     let two = inv_cipher(&inverse, &keys, 10, second);

@@ -226,15 +226,3 @@ module _ (a₀ a₁ a₂ a₃ : ℕ) (h₀ : a₀ < 256) (h₁ : a₁ < 256) (h�
   word-mixed w =
       let below = mixes-below a₀ a₁ a₂ a₃ h₀ h₁ h₂ h₃ in
       bytes-number _ _ _ _ (below _ _ _ _) (below _ _ _ _) (below _ _ _ _) (below _ _ _ _)
-
-module _ (a₀ a₁ a₂ a₃ : ℕ) (h₀ : a₀ < 256) (h₁ : a₁ < 256) (h₂ : a₂ < 256) (h₃ : a₃ < 256) where
-  -- a column through its word
-  pub column-mixed : (a b c d w m : ℕ) (r : List ℕ) → a < 256 → b < 256 → c < 256 → d < 256
-      → w ≡ number (a ∷ b ∷ c ∷ d ∷ []) → m ≡ mixedWord a₀ a₁ a₂ a₃ w → r ≡ bigEndian 4 m → r ≡ mixedColumn a₀ a₁ a₂ a₃ a b c d
-  unfolding mixedWord
-  column-mixed a b c d w m r ha hb hc hd ew em er =
-      let below = mixes-below a₀ a₁ a₂ a₃ h₀ h₁ h₂ h₃ in
-      er
-      ∙ rw (em, ew, bytes-number a b c d ha hb hc hd)
-      (bytes-number (mixedByte a₀ a₁ a₂ a₃ a b c d) (mixedByte a₀ a₁ a₂ a₃ b c d a) (mixedByte a₀ a₁ a₂ a₃ c d a b) (mixedByte a₀ a₁ a₂ a₃ d a b c)
-      (below a b c d) (below b c d a) (below c d a b) (below d a b c))

@@ -1,9 +1,7 @@
 // A column of the state in a word, its first byte highest: its four bytes doubled at once, and mixed each way (FIPS 197, §5.1.3 and §5.3.3).
 ghost use mathlib.Core.Path.{_≡_};
 ghost use Rattle.substitution.specs.Field.{_•_};
-ghost use Rattle.columns.specs.Columns.{eachByte, mixedColumn, mixedWord};
-use words::bytes_of;
-use words::word_of;
+ghost use Rattle.columns.specs.Columns.{eachByte, mixedWord};
 
 // Each byte times 02. The digit that leaves a byte comes back as 1b.
 fn doubled(w: u32) -> u32
@@ -23,24 +21,10 @@ fn mixed(w: u32) -> u32
 }
 
 // The column times 0b x^3 + 0d x^2 + 09 x + 0e: first times 04 x^2 + 05, and that mixed.
-fn unmixed(w: u32) -> u32
+pub fn unmixed(w: u32) -> u32
     ensures { λ r. ⌜ r ≡ mixedWord 0x0e 0x09 0x0d 0x0b w ⌝ }
 {
     let twice = doubled(w ^ (w << 16 ^ w >> 16));
     let four_times = doubled(twice);
     mixed(w ^ four_times)
-}
-
-// A column mixed, byte by byte.
-pub fn mixed_column(a: u8, b: u8, c: u8, d: u8) -> [u8; 4]
-    ensures { λ r. ⌜ r ≡ mixedColumn 0x02 0x01 0x01 0x03 a b c d ⌝ }
-{
-    bytes_of(mixed(word_of(a, b, c, d)))
-}
-
-// A column mixed back, byte by byte.
-pub fn unmixed_column(a: u8, b: u8, c: u8, d: u8) -> [u8; 4]
-    ensures { λ r. ⌜ r ≡ mixedColumn 0x0e 0x09 0x0d 0x0b a b c d ⌝ }
-{
-    bytes_of(unmixed(word_of(a, b, c, d)))
 }

@@ -2,6 +2,8 @@
 use mathlib.Core.Path.{_≡_, refl, sym, ap, _∙_}
 use mathlib.Core.List.{List, [], _∷_, _++_}
 use Prim.Native.Nat.{ℕ, _+_, _*_, _≤_, _<_}
+use native.Mathlib.Nat.{add-zero}
+use native.Mathlib.Omega.{arith}
 use lib.Bits.{bitXor}
 use lib.Dec.{lit<}
 use lib.ListN.{length, getD}
@@ -9,11 +11,12 @@ use Rattle.laws.specs.Bytes.{tabulate, bigEndian, number}
 use Rattle.laws.proofs.Elements.{all-elements}
 use Rattle.words.specs.Words.{bytesOf}
 use Rattle.words.proofs.Words.{bytes-number}
-use Rattle.substitution.specs.Box.{SBox}
-use Rattle.substitution.proofs.Bytes.{SBox-below}
+use Rattle.substitution.specs.Box.{SBox, InvSBox}
+use Rattle.substitution.proofs.Bytes.{SBox-below, InvSBox-below}
 use Rattle.columns.specs.Columns.{mixedColumn, mixedWord}
-use Rattle.columns.proofs.Columns.{word-mixed}
-use Rattle.steps.specs.Steps.{stateOf, mixed, SubBytes, ShiftRows, MixColumns, AddRoundKey}
+use Rattle.columns.proofs.Columns.{word-mixed, mixed-additive}
+use Rattle.inverse_keys.specs.Keys.{InverseKeys}
+use Rattle.steps.specs.Steps.{stateOf, mixed, SubBytes, ShiftRows, MixColumns, InvSubBytes, InvShiftRows, InvMixColumns, AddRoundKey}
 use Rattle.steps.proofs.State.{keyed}
 
 -- ---- the columns mixed
@@ -41,6 +44,9 @@ module _ (a₀ a₁ a₂ a₃ : ℕ) (h₀ : a₀ < 256) (h₁ : a₁ < 256) (h�
 abbrev pub substituted : (ℕ → ℕ) → ℕ → ℕ → ℕ → ℕ → ℕ
 substituted f a b c d = number (f a ∷ f b ∷ f c ∷ f d ∷ [])
 
+four : (f : ℕ → ℕ) → ((x : ℕ) → f x < 256) → (a b c d : ℕ) → bigEndian 4 (substituted f a b c d) ≡ f a ∷ f b ∷ f c ∷ f d ∷ []
+four f h a b c d = bytes-number (f a) (f b) (f c) (f d) (h a) (h b) (h c) (h d)
+
 module _ (s : List ℕ) (n : length s ≡ 16) where
   abbrev byte : ℕ → ℕ
   byte i = getD s i 0
@@ -57,14 +63,11 @@ module _ (s : List ℕ) (n : length s ≡ 16) where
       ap (λ (l : List ℕ). ShiftRows (SubBytes l)) (all-elements 0 16 s n)
       ∙ sym
       (rw (
-        four (byte 0) (byte 5) (byte 10) (byte 15),
-        four (byte 4) (byte 9) (byte 14) (byte 3),
-        four (byte 8) (byte 13) (byte 2) (byte 7),
-        four (byte 12) (byte 1) (byte 6) (byte 11),
+        four SBox SBox-below (byte 0) (byte 5) (byte 10) (byte 15),
+        four SBox SBox-below (byte 4) (byte 9) (byte 14) (byte 3),
+        four SBox SBox-below (byte 8) (byte 13) (byte 2) (byte 7),
+        four SBox SBox-below (byte 12) (byte 1) (byte 6) (byte 11),
       ))
-    where
-      four : (a b c d : ℕ) → bigEndian 4 (substituted SBox a b c d) ≡ SBox a ∷ SBox b ∷ SBox c ∷ SBox d ∷ []
-      four a b c d = bytes-number (SBox a) (SBox b) (SBox c) (SBox d) (SBox-below a) (SBox-below b) (SBox-below c) (SBox-below d)
 
   -- §5.1: a full round
   pub round-columns : (ws : List ℕ) (round : ℕ) → 4 * round + 4 ≤ length ws
@@ -79,3 +82,51 @@ module _ (s : List ℕ) (n : length s ≡ 16) where
   round-columns ws round fits =
       ap (AddRoundKey (bytesOf ws) round) (ap MixColumns rows-shifted ∙ words-mixed 0x02 0x01 0x01 0x03 (lit< tt) (lit< tt) (lit< tt) (lit< tt) _ _ _ _)
       ∙ keyed ws round _ _ _ _ fits
+
+  rows-shifted-back : InvSubBytes (InvShiftRows s)
+      ≡ bytesOf
+      (substituted InvSBox (byte 0) (byte 13) (byte 10) (byte 7)
+      ∷ substituted InvSBox (byte 4) (byte 1) (byte 14) (byte 11)
+      ∷ substituted InvSBox (byte 8) (byte 5) (byte 2) (byte 15)
+      ∷ substituted InvSBox (byte 12) (byte 9) (byte 6) (byte 3)
+      ∷ [])
+  unfolding InvShiftRows InvSubBytes stateOf tabulate bytesOf
+  rows-shifted-back =
+      sym
+      (rw (
+        four InvSBox InvSBox-below (byte 0) (byte 13) (byte 10) (byte 7),
+        four InvSBox InvSBox-below (byte 4) (byte 1) (byte 14) (byte 11),
+        four InvSBox InvSBox-below (byte 8) (byte 5) (byte 2) (byte 15),
+        four InvSBox InvSBox-below (byte 12) (byte 9) (byte 6) (byte 3),
+      ))
+
+  -- §5.3.5: a full inverse round, where the round key is added after the columns are mixed back
+  module _ (Nr round : ℕ) (w keys : List ℕ) (k : InverseKeys Nr w keys) (inner : 1 ≤ round) (few : round < Nr) (fits : 4 * round + 4 ≤ length keys) where
+    -- a column of the inverse round, by the word of its inverse substitutes
+    later : (x i : ℕ) → i < 4
+        → mixedWord 0x0e 0x09 0x0d 0x0b (bitXor x (getD w (4 * round + i) 0)) ≡ bitXor (mixedWord 0x0e 0x09 0x0d 0x0b x) (getD keys (4 * round + i) 0)
+    later x i h =
+        mixed-additive 0x0e 0x09 0x0d 0x0b (lit< tt) (lit< tt) (lit< tt) (lit< tt) x (getD w (4 * round + i) 0)
+        ∙ ap (bitXor (mixedWord 0x0e 0x09 0x0d 0x0b x)) (sym (k .inner (4 * round + i) (omega arith) (omega arith)))
+
+    first : (x : ℕ) → mixedWord 0x0e 0x09 0x0d 0x0b (bitXor x (getD w (4 * round) 0)) ≡ bitXor (mixedWord 0x0e 0x09 0x0d 0x0b x) (getD keys (4 * round) 0)
+    first x = rw add-zero at (later x 0 (lit< tt))
+
+    pub inv-round-columns : InvMixColumns (AddRoundKey (bytesOf w) round (InvSubBytes (InvShiftRows s)))
+        ≡ bytesOf
+        (bitXor (mixedWord 0x0e 0x09 0x0d 0x0b (substituted InvSBox (byte 0) (byte 13) (byte 10) (byte 7))) (getD keys (4 * round) 0)
+        ∷ bitXor (mixedWord 0x0e 0x09 0x0d 0x0b (substituted InvSBox (byte 4) (byte 1) (byte 14) (byte 11))) (getD keys (4 * round + 1) 0)
+        ∷ bitXor (mixedWord 0x0e 0x09 0x0d 0x0b (substituted InvSBox (byte 8) (byte 5) (byte 2) (byte 15))) (getD keys (4 * round + 2) 0)
+        ∷ bitXor (mixedWord 0x0e 0x09 0x0d 0x0b (substituted InvSBox (byte 12) (byte 9) (byte 6) (byte 3))) (getD keys (4 * round + 3) 0)
+        ∷ [])
+    unfolding InvMixColumns
+    inv-round-columns =
+        let long : length keys ≡ length w = k .long in
+        ap InvMixColumns (ap (AddRoundKey (bytesOf w) round) rows-shifted-back ∙ keyed w round _ _ _ _ (omega arith))
+        ∙ words-mixed 0x0e 0x09 0x0d 0x0b (lit< tt) (lit< tt) (lit< tt) (lit< tt) _ _ _ _
+        ∙ rw (
+          first (substituted InvSBox (byte 0) (byte 13) (byte 10) (byte 7)),
+          later (substituted InvSBox (byte 4) (byte 1) (byte 14) (byte 11)) 1 (lit< tt),
+          later (substituted InvSBox (byte 8) (byte 5) (byte 2) (byte 15)) 2 (lit< tt),
+          later (substituted InvSBox (byte 12) (byte 9) (byte 6) (byte 3)) 3 (lit< tt),
+        )

@@ -13,7 +13,7 @@ use Rattle.laws.proofs.Tabulate.{getD-tabulate, tabulate-ext, tabulate-getD}
 use Rattle.laws.proofs.Xor.{Additive, additive-agree}
 use Rattle.substitution.specs.Field.{xtime, xtimes, bit, productBelow, _•_}
 use Rattle.laws.specs.Bytes.{tabulate}
-use Rattle.columns.specs.Columns.{mixedByte, mixedColumn}
+use Rattle.columns.specs.Columns.{mixedByte}
 use Rattle.columns.proofs.Columns.{mixedByte-xor}
 use Rattle.steps.specs.Steps.{at, stateOf, mixed, MixColumns, InvMixColumns}
 
@@ -144,15 +144,3 @@ InvMixColumns-MixColumns s n bytes = mixed-undone 0x02 0x01 0x01 0x03 0x0e 0x09 
 pub MixColumns-InvMixColumns : (s : List ℕ) → length s ≡ 16 → ((i : ℕ) → getD s i 0 < 256) → MixColumns (InvMixColumns s) ≡ s
 unfolding MixColumns InvMixColumns found wanted twice mixedByte _•_ productBelow bit xtimes xtime
 MixColumns-InvMixColumns s n bytes = mixed-undone 0x0e 0x09 0x0d 0x0b 0x02 0x01 0x01 0x03 tt s bytes n
-
--- four columns, each mixed, one after another: the state mixed
-pub columns-mixed : (a₀ a₁ a₂ a₃ : ℕ) (s : List ℕ) (x₀ x₁ x₂ x₃ : List ℕ)
-    → x₀ ≡ mixedColumn a₀ a₁ a₂ a₃ (getD s 0 0) (getD s 1 0) (getD s 2 0) (getD s 3 0)
-    → x₁ ≡ mixedColumn a₀ a₁ a₂ a₃ (getD s 4 0) (getD s 5 0) (getD s 6 0) (getD s 7 0)
-    → x₂ ≡ mixedColumn a₀ a₁ a₂ a₃ (getD s 8 0) (getD s 9 0) (getD s 10 0) (getD s 11 0)
-    → x₃ ≡ mixedColumn a₀ a₁ a₂ a₃ (getD s 12 0) (getD s 13 0) (getD s 14 0) (getD s 15 0)
-    → getD x₀ 0 0 ∷ getD x₀ 1 0 ∷ getD x₀ 2 0 ∷ getD x₀ 3 0 ∷ getD x₁ 0 0 ∷ getD x₁ 1 0 ∷ getD x₁ 2 0 ∷ getD x₁ 3 0
-    ∷ getD x₂ 0 0 ∷ getD x₂ 1 0 ∷ getD x₂ 2 0 ∷ getD x₂ 3 0 ∷ getD x₃ 0 0 ∷ getD x₃ 1 0 ∷ getD x₃ 2 0 ∷ getD x₃ 3 0 ∷ []
-    ≡ mixed a₀ a₁ a₂ a₃ s
-unfolding mixed stateOf tabulate
-columns-mixed a₀ a₁ a₂ a₃ s x₀ x₁ x₂ x₃ e₀ e₁ e₂ e₃ = rw (e₀, e₁, e₂, e₃)

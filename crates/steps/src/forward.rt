@@ -2,10 +2,9 @@
 ghost use mathlib.Core.Path.{_≡_};
 ghost use Prim.Native.Nat.{_+_, _*_, _≤_};
 ghost use lib.ListN.{length};
-ghost use Rattle.steps.specs.Steps.{SubBytes, ShiftRows, MixColumns, AddRoundKey};
+ghost use Rattle.steps.specs.Steps.{SubBytes, ShiftRows, AddRoundKey};
 ghost use Rattle.substitution.specs.Box.{SBox, TableOf};
 ghost use Rattle.words.specs.Words.{bytesOf};
-use columns::mixed_column;
 use substitution::look_up;
 use words::state_of;
 use words::word_of;
@@ -38,33 +37,6 @@ pub fn shift_rows(s: [u8; 16]) -> [u8; 16]
         s[1],
         s[6],
         s[11],
-    ]
-}
-
-pub fn mix_columns(s: [u8; 16]) -> [u8; 16]
-    ensures { λ r. ⌜ r ≡ MixColumns s ⌝ }
-{
-    let column0 = mixed_column(s[0], s[1], s[2], s[3]);
-    let column1 = mixed_column(s[4], s[5], s[6], s[7]);
-    let column2 = mixed_column(s[8], s[9], s[10], s[11]);
-    let column3 = mixed_column(s[12], s[13], s[14], s[15]);
-    [
-        column0[0],
-        column0[1],
-        column0[2],
-        column0[3],
-        column1[0],
-        column1[1],
-        column1[2],
-        column1[3],
-        column2[0],
-        column2[1],
-        column2[2],
-        column2[3],
-        column3[0],
-        column3[1],
-        column3[2],
-        column3[3],
     ]
 }
 

@@ -1,4 +1,5 @@
--- `cipher::decrypt` is AES-128 backwards: the key expanded, and the inverse cipher under it.
+-- `cipher::decrypt` is AES-128 backwards: the key expanded, its round keys mixed back, and the inverse cipher under them.
+use mathlib.Core.Path.{_∙_}
 use Rattle.cipher.specs.Aes.{InvAES128}
 use borrow.Author.Needs.{needs}
 use Rattle.cipher.proofs.decrypt.Statement.{statement}
@@ -6,6 +7,12 @@ use Rattle.cipher.proofs.decrypt.Tie as tie
 
 schedule128-requires : tie.Need-schedule128-requires
 schedule128-requires c κs = search needs
+
+slice-aggregate-unmix-keys : tie.Need-slice-aggregate-unmix-keys
+slice-aggregate-unmix-keys c = search needs
+
+unmix-keys-requires : tie.Need-unmix-keys-requires
+unmix-keys-requires c κs = search needs
 
 inv-sub-table-requires : tie.Need-inv-sub-table-requires
 inv-sub-table-requires c κs = search needs
@@ -18,13 +25,17 @@ inv-cipher-requires c κs = search needs
 
 returns : tie.Need-returns
 unfolding InvAES128
-returns c = cc
+returns c =
+    let schedule = c .before .before .before .before .before .before .before .schedule128 in
+    c .inv-cipher .ensures (schedule .result) (c .before .before .before .before .before .unmix-keys .ensures) ∙ rw (schedule .ensures)
 
 pub decrypt-spec : {M : Type 1} → statement M
 decrypt-spec =
     tie.close
     (tie.spec
     schedule128-requires
+    slice-aggregate-unmix-keys
+    unmix-keys-requires
     inv-sub-table-requires
     slice-aggregate-inv-cipher
     inv-cipher-requires

@@ -1,4 +1,5 @@
 -- `cipher::decrypt_pair` expands the key once, for two blocks.
+use mathlib.Core.Path.{_∙_}
 use Rattle.cipher.specs.Aes.{InvAES128}
 use borrow.Author.Needs.{needs}
 use Rattle.cipher.proofs.decrypt_pair.Statement.{statement}
@@ -6,6 +7,12 @@ use Rattle.cipher.proofs.decrypt_pair.Tie as tie
 
 schedule128-requires : tie.Need-schedule128-requires
 schedule128-requires c κs = search needs
+
+slice-aggregate-unmix-keys : tie.Need-slice-aggregate-unmix-keys
+slice-aggregate-unmix-keys c = search needs
+
+unmix-keys-requires : tie.Need-unmix-keys-requires
+unmix-keys-requires c κs = search needs
 
 inv-sub-table-requires : tie.Need-inv-sub-table-requires
 inv-sub-table-requires c κs = search needs
@@ -24,13 +31,20 @@ inv-cipher-requires-2 c κs = search needs
 
 returns : tie.Need-returns
 unfolding InvAES128
-returns c = (cc, cc)
+returns c =
+    let schedule = c .before .before .before .before .before .before .before .before .before .before .schedule128 in
+    let keys = c .before .before .before .before .before .before .before .before .unmix-keys .ensures in (
+      c .before .before .before .inv-cipher .ensures (schedule .result) keys ∙ rw (schedule .ensures),
+      c .inv-cipher2 .ensures (schedule .result) keys ∙ rw (schedule .ensures),
+    )
 
 pub decrypt-pair-spec : {M : Type 1} → statement M
 decrypt-pair-spec =
     tie.close
     (tie.spec
     schedule128-requires
+    slice-aggregate-unmix-keys
+    unmix-keys-requires
     inv-sub-table-requires
     slice-aggregate-inv-cipher
     inv-cipher-requires
