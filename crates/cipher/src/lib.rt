@@ -4,7 +4,6 @@ use inverse_keys::unmix_keys;
 use key_schedule::expand;
 use rounds::cipher;
 use rounds::inv_cipher;
-use substitution::inv_sub_table;
 use substitution::sub_table;
 ghost use mathlib.Core.Path.{_≡_};
 ghost use Rattle.words.specs.Words.{bytesOf};
@@ -17,16 +16,6 @@ pub struct Blocks {
     pub second: [u8; 16],
 }
 
-// AES-128: the block encrypted under the key.
-pub fn encrypt(key: [u8; 16], block: [u8; 16]) -> [u8; 16]
-    ensures { λ r. ⌜ r ≡ AES128 key block ⌝ }
-{
-    let table = sub_table();
-    let mut keys = [0u32; 44];
-    expand(&table, 4, 40, &key, &mut keys);
-    cipher(&table, &keys, 10, block)
-}
-
 // The key schedule of AES-128. Its box is off the stack when it returns.
 fn schedule128(key: [u8; 16]) -> [u32; 44]
     ensures { λ r. ⌜ bytesOf r ≡ KeyExpansion 4 10 key ⌝ }
@@ -37,35 +26,48 @@ fn schedule128(key: [u8; 16]) -> [u32; 44]
     keys
 }
 
+// The key schedule of AES-256, likewise.
+fn schedule256(key: [u8; 32]) -> [u32; 60]
+    ensures { λ r. ⌜ bytesOf r ≡ KeyExpansion 8 14 key ⌝ }
+{
+    let table = sub_table();
+    let mut keys = [0u32; 60];
+    expand(&table, 8, 52, &key, &mut keys);
+    keys
+}
+
+// AES-128: the block encrypted under the key.
+pub fn encrypt(key: [u8; 16], block: [u8; 16]) -> [u8; 16]
+    ensures { λ r. ⌜ r ≡ AES128 key block ⌝ }
+{
+    let keys = schedule128(key);
+    cipher(&keys, 10, block)
+}
+
 // AES-128: the block decrypted under the key.
 pub fn decrypt(key: [u8; 16], block: [u8; 16]) -> [u8; 16]
     ensures { λ r. ⌜ r ≡ InvAES128 key block ⌝ }
 {
     let mut keys = schedule128(key);
     unmix_keys(10, &mut keys);
-    let inverse = inv_sub_table();
-    inv_cipher(&inverse, &keys, 10, block)
+    inv_cipher(&keys, 10, block)
 }
 
 // AES-256: the block encrypted under the key.
 pub fn encrypt256(key: [u8; 32], block: [u8; 16]) -> [u8; 16]
     ensures { λ r. ⌜ r ≡ AES256 key block ⌝ }
 {
-    let table = sub_table();
-    let mut keys = [0u32; 60];
-    expand(&table, 8, 52, &key, &mut keys);
-    cipher(&table, &keys, 14, block)
+    let keys = schedule256(key);
+    cipher(&keys, 14, block)
 }
 
 // AES-128: two blocks, each encrypted under the key.
 pub fn encrypt_pair(key: [u8; 16], first: [u8; 16], second: [u8; 16]) -> Blocks
     ensures { λ r. ⌜ (r .first ≡ AES128 key first) × (r .second ≡ AES128 key second) ⌝ }
 {
-    let table = sub_table();
-    let mut keys = [0u32; 44];
-    expand(&table, 4, 40, &key, &mut keys);
-    let one = cipher(&table, &keys, 10, first);
-    let two = cipher(&table, &keys, 10, second);
+    let keys = schedule128(key);
+    let one = cipher(&keys, 10, first);
+    let two = cipher(&keys, 10, second);
     Blocks {
         first: one,
         second: two,
@@ -78,9 +80,8 @@ pub fn decrypt_pair(key: [u8; 16], first: [u8; 16], second: [u8; 16]) -> Blocks
 {
     let mut keys = schedule128(key);
     unmix_keys(10, &mut keys);
-    let inverse = inv_sub_table();
-    let one = inv_cipher(&inverse, &keys, 10, first);
-    let two = inv_cipher(&inverse, &keys, 10, second);
+    let one = inv_cipher(&keys, 10, first);
+    let two = inv_cipher(&keys, 10, second);
     Blocks {
         first: one,
         second: two,
@@ -91,11 +92,9 @@ pub fn decrypt_pair(key: [u8; 16], first: [u8; 16], second: [u8; 16]) -> Blocks
 pub fn encrypt256_pair(key: [u8; 32], first: [u8; 16], second: [u8; 16]) -> Blocks
     ensures { λ r. ⌜ (r .first ≡ AES256 key first) × (r .second ≡ AES256 key second) ⌝ }
 {
-    let table = sub_table();
-    let mut keys = [0u32; 60];
-    expand(&table, 8, 52, &key, &mut keys);
-    let one = cipher(&table, &keys, 14, first);
-    let two = cipher(&table, &keys, 14, second);
+    let keys = schedule256(key);
+    let one = cipher(&keys, 14, first);
+    let two = cipher(&keys, 14, second);
     Blocks {
         first: one,
         second: two,

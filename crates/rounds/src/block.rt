@@ -1,12 +1,13 @@
-// The cipher and the inverse cipher of FIPS 197, §5.1 and §5.3, over Nr: one block under a key schedule.
+// The cipher and the inverse cipher of FIPS 197, §5.1 and §5.3, over Nr: one block under a key schedule in words. Full rounds go by a table of
+// columns, the last one by a box; one of the two is off the stack when the other is set up.
 ghost use mathlib.Core.Path.{_≡_};
 ghost use mathlib.Core.List.{List};
-ghost use Prim.Native.Nat.{ℕ, _+_, _*_, _≤_};
+ghost use Prim.Native.Nat.{ℕ, _+_, _-_, _*_, _≤_};
 ghost use lib.ListN.{length};
-ghost use Rattle.substitution.specs.Box.{SBox, InvSBox, TableOf};
 ghost use Rattle.words.specs.Words.{bytesOf};
 ghost use Rattle.inverse_keys.specs.Keys.{InverseKeys};
-ghost use Rattle.rounds.specs.Rounds.{Cipher, InvCipher};
+ghost use Rattle.steps.specs.Steps.{SubBytes, ShiftRows, InvSubBytes, InvShiftRows, AddRoundKey};
+ghost use Rattle.rounds.specs.Rounds.{rounds, Cipher, invRounds, InvCipher};
 use column_tables::mixed_table;
 use column_tables::unmixed_table;
 use full_rounds::full_round;
@@ -16,12 +17,13 @@ use steps::forward::shift_rows;
 use steps::forward::sub_bytes;
 use steps::inverse::inv_shift_rows;
 use steps::inverse::inv_sub_bytes;
+use substitution::inv_sub_table;
+use substitution::sub_table;
 
-// The block encrypted under the key schedule. Full rounds go by the table of mixed columns, the last one by the box, which is lent.
-pub fn cipher(table: &[u8; 256], keys: &[u32], nr: usize, block: [u8; 16]) -> [u8; 16]
-    requires { ⌜ TableOf SBox (now table) ⌝ }
+// All rounds but the last.
+fn full_rounds(keys: &[u32], nr: usize, block: [u8; 16]) -> [u8; 16]
     requires { ⌜ (1 ≤ nr) × ((nr ≤ 14) × (length (now keys) ≡ 4 * (nr + 1))) ⌝ }
-    ensures { λ r. ⌜ r ≡ Cipher nr (bytesOf (now (keys .entry))) block ⌝ }
+    ensures { λ r. ⌜ r ≡ rounds (bytesOf (now (keys .entry))) (nr - 1) block ⌝ }
 {
     let columns = mixed_table();
     let mut s = add_round_key(keys, 0, block);
@@ -31,15 +33,30 @@ pub fn cipher(table: &[u8; 256], keys: &[u32], nr: usize, block: [u8; 16]) -> [u
         s = next;
         n += 1;
     }
-    add_round_key(keys, nr, shift_rows(sub_bytes(table, s)))
+    s
 }
 
-// The block decrypted. The round keys are those of the equivalent inverse cipher (§5.3.5) for a key schedule w. Full rounds go by the table of
-// columns mixed back, the last one by the inverse box, which is lent.
-pub fn inv_cipher(table: &[u8; 256], keys: &[u32], nr: usize, block: [u8; 16]) -> [u8; 16]
-    requires { ⌜ TableOf InvSBox (now table) ⌝ }
+// The last round, which mixes no columns.
+fn last_round(keys: &[u32], nr: usize, s: [u8; 16]) -> [u8; 16]
+    requires { ⌜ 4 * nr + 4 ≤ length (now keys) ⌝ }
+    ensures { λ r. ⌜ r ≡ AddRoundKey (bytesOf (now (keys .entry))) nr (ShiftRows (SubBytes s)) ⌝ }
+{
+    let table = sub_table();
+    add_round_key(keys, nr, shift_rows(sub_bytes(&table, s)))
+}
+
+// The block encrypted under the key schedule.
+pub fn cipher(keys: &[u32], nr: usize, block: [u8; 16]) -> [u8; 16]
     requires { ⌜ (1 ≤ nr) × ((nr ≤ 14) × (length (now keys) ≡ 4 * (nr + 1))) ⌝ }
-    ensures { λ r. ⌜ ((w : List ℕ) → InverseKeys nr w (now (keys .entry)) → r ≡ InvCipher nr (bytesOf w) block) ⌝ }
+    ensures { λ r. ⌜ r ≡ Cipher nr (bytesOf (now (keys .entry))) block ⌝ }
+{
+    last_round(keys, nr, full_rounds(keys, nr, block))
+}
+
+// All inverse rounds but the last, under round keys of the equivalent inverse cipher for a key schedule w.
+fn inv_full_rounds(keys: &[u32], nr: usize, block: [u8; 16]) -> [u8; 16]
+    requires { ⌜ (1 ≤ nr) × ((nr ≤ 14) × (length (now keys) ≡ 4 * (nr + 1))) ⌝ }
+    ensures { λ r. ⌜ ((w : List ℕ) → InverseKeys nr w (now (keys .entry)) → invRounds (bytesOf w) 0 r ≡ InvCipher nr (bytesOf w) block) ⌝ }
 {
     let columns = unmixed_table();
     let mut s = add_round_key(keys, nr, block);
@@ -49,5 +66,22 @@ pub fn inv_cipher(table: &[u8; 256], keys: &[u32], nr: usize, block: [u8; 16]) -
         s = next;
         n -= 1;
     }
-    add_round_key(keys, 0, inv_sub_bytes(table, inv_shift_rows(s)))
+    s
+}
+
+// The last inverse round, which mixes no columns.
+fn inv_last_round(keys: &[u32], s: [u8; 16]) -> [u8; 16]
+    requires { ⌜ 4 ≤ length (now keys) ⌝ }
+    ensures { λ r. ⌜ r ≡ AddRoundKey (bytesOf (now (keys .entry))) 0 (InvSubBytes (InvShiftRows s)) ⌝ }
+{
+    let table = inv_sub_table();
+    add_round_key(keys, 0, inv_sub_bytes(&table, inv_shift_rows(s)))
+}
+
+// The block decrypted under a key schedule w, of which the round keys of the equivalent inverse cipher (§5.3.5) are lent.
+pub fn inv_cipher(keys: &[u32], nr: usize, block: [u8; 16]) -> [u8; 16]
+    requires { ⌜ (1 ≤ nr) × ((nr ≤ 14) × (length (now keys) ≡ 4 * (nr + 1))) ⌝ }
+    ensures { λ r. ⌜ ((w : List ℕ) → InverseKeys nr w (now (keys .entry)) → r ≡ InvCipher nr (bytesOf w) block) ⌝ }
+{
+    inv_last_round(keys, inv_full_rounds(keys, nr, block))
 }

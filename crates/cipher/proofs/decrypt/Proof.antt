@@ -14,9 +14,6 @@ slice-aggregate-unmix-keys c = search needs
 unmix-keys-requires : tie.Need-unmix-keys-requires
 unmix-keys-requires c κs = search needs
 
-inv-sub-table-requires : tie.Need-inv-sub-table-requires
-inv-sub-table-requires c κs = search needs
-
 slice-aggregate-inv-cipher : tie.Need-slice-aggregate-inv-cipher
 slice-aggregate-inv-cipher c = search needs
 
@@ -26,8 +23,8 @@ inv-cipher-requires c κs = search needs
 returns : tie.Need-returns
 unfolding InvAES128
 returns c =
-    let schedule = c .before .before .before .before .before .before .before .schedule128 in
-    c .inv-cipher .ensures (schedule .result) (c .before .before .before .before .before .unmix-keys .ensures) ∙ rw (schedule .ensures)
+    let schedule = c .before .before .before .before .before .schedule128 in
+    c .inv-cipher .ensures (schedule .result) (c .before .before .before .unmix-keys .ensures) ∙ rw (schedule .ensures)
 
 pub decrypt-spec : {M : Type 1} → statement M
 decrypt-spec =
@@ -36,7 +33,6 @@ decrypt-spec =
     schedule128-requires
     slice-aggregate-unmix-keys
     unmix-keys-requires
-    inv-sub-table-requires
     slice-aggregate-inv-cipher
     inv-cipher-requires
     returns)

@@ -14,9 +14,6 @@ slice-aggregate-unmix-keys c = search needs
 unmix-keys-requires : tie.Need-unmix-keys-requires
 unmix-keys-requires c κs = search needs
 
-inv-sub-table-requires : tie.Need-inv-sub-table-requires
-inv-sub-table-requires c κs = search needs
-
 slice-aggregate-inv-cipher : tie.Need-slice-aggregate-inv-cipher
 slice-aggregate-inv-cipher c = search needs
 
@@ -32,9 +29,9 @@ inv-cipher-requires-2 c κs = search needs
 returns : tie.Need-returns
 unfolding InvAES128
 returns c =
-    let schedule = c .before .before .before .before .before .before .before .before .before .before .schedule128 in
-    let keys = c .before .before .before .before .before .before .before .before .unmix-keys .ensures in (
-      c .before .before .before .inv-cipher .ensures (schedule .result) keys ∙ rw (schedule .ensures),
+    let schedule = c .before .before .before .before .before .before .before .schedule128 in
+    let keys = c .before .before .before .before .before .unmix-keys .ensures in (
+      c .before .before .inv-cipher .ensures (schedule .result) keys ∙ rw (schedule .ensures),
       c .inv-cipher2 .ensures (schedule .result) keys ∙ rw (schedule .ensures),
     )
 
@@ -45,7 +42,6 @@ decrypt-pair-spec =
     schedule128-requires
     slice-aggregate-unmix-keys
     unmix-keys-requires
-    inv-sub-table-requires
     slice-aggregate-inv-cipher
     inv-cipher-requires
     slice-aggregate-inv-cipher-2

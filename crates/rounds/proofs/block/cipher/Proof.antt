@@ -1,90 +1,18 @@
--- `rounds::block::cipher` meets its contract: n turns of the loop are the first n full rounds.
-use mathlib.Core.Path.{_≡_, sym, _∙_}
-use mathlib.Core.List.{List}
-use Prim.Native.Nat.{ℕ, _-_, _≤_}
-use native.Mathlib.Omega.{arith}
+-- `rounds::block::cipher` is the full rounds and the last one.
+use Rattle.rounds.specs.Rounds.{Cipher}
 use borrow.Author.Needs.{needs}
-use denote.Ref.{now}
-use Rattle.words.specs.Words.{bytesOf}
-use Rattle.steps.specs.Steps.{AddRoundKey}
-use Rattle.rounds.specs.Rounds.{rounds, Cipher}
-use Rattle.rounds.proofs.Rounds.{rounds-zero, rounds-step}
 use Rattle.rounds.proofs.block.cipher.Statement.{statement}
 use Rattle.rounds.proofs.block.cipher.Tie as tie
 
-abbrev Inv-loop : tie.InvT-loop
-Inv-loop table keys nr columns s₀ n₀ s n =
-    (n ≤ nr - 1) × ((block : List ℕ) → s₀ ≡ AddRoundKey (bytesOf keys) 0 block → s ≡ rounds (bytesOf keys) n block)
+full-rounds-requires : tie.Need-full-rounds-requires
+full-rounds-requires c κs = search needs
 
-abbrev μ-loop : tie.MeasureT-loop
-μ-loop table keys nr columns s₀ n₀ s n = nr - 1 - n
+last-round-requires : tie.Need-last-round-requires
+last-round-requires c κs = search needs
 
-mixed-table-requires : tie.Need-mixed-table-requires Inv-loop μ-loop
-mixed-table-requires c κs = search needs
-
-add-round-key-requires : tie.Need-add-round-key-requires Inv-loop μ-loop
-add-round-key-requires c κs = search needs
-
-loop-holds : tie.Need-loop-holds Inv-loop μ-loop
-loop-holds c = (search needs, λ block e. e ∙ sym (rounds-zero (bytesOf (now (c .before .before .before .args .keys))) block))
-
-sub-loop : tie.Need-sub-loop Inv-loop μ-loop
-sub-loop c = search needs
-
-add-full-round : tie.Need-add-full-round Inv-loop μ-loop
-add-full-round c = search needs
-
-full-round-requires : tie.Need-full-round-requires Inv-loop μ-loop
-full-round-requires c κs = search needs
-
-add-n : tie.Need-add-n Inv-loop μ-loop
-add-n c = search needs
-
-loop-less : tie.Need-loop-less Inv-loop μ-loop
-loop-less c = search needs
-
-loop-again : tie.Need-loop-again Inv-loop μ-loop
-loop-again c =
-    let l = c .before .before .before .loop in
-    let keys = bytesOf (now (c .before .before .before .before .before .before .before .args .keys)) in (
-      search needs,
-      λ block e. let r : l .s ≡ rounds keys (l .n) block = l .inv .1 block e in cc (rounds-step keys block (l .n)),
-    )
-
-sub-bytes-requires : tie.Need-sub-bytes-requires Inv-loop μ-loop
-sub-bytes-requires c κs = search needs
-
-shift-rows-requires : tie.Need-shift-rows-requires Inv-loop μ-loop
-shift-rows-requires c κs = search needs
-
-add-round-key-requires-2 : tie.Need-add-round-key-requires-2 Inv-loop μ-loop
-add-round-key-requires-2 c κs = search needs
-
-returns : tie.Need-returns Inv-loop μ-loop
+returns : tie.Need-returns
 unfolding Cipher
-returns c =
-    let l = c .before .before .before .before .loop in
-    let a = c .before .before .before .before .before .before .before .before .args in
-    let all : l .n ≡ a .nr - 1 = omega arith in
-    let r : l .s ≡ rounds (bytesOf (now (a .keys))) (l .n) (a .block) = l .inv .1 (a .block) (c .before .before .before .before .before .add-round-key .ensures) in
-    cc
+returns c = cc
 
 pub cipher-spec : {M : Type 1} → statement M
-cipher-spec =
-    tie.close
-    (tie.spec
-    Inv-loop
-    μ-loop
-    mixed-table-requires
-    add-round-key-requires
-    loop-holds
-    sub-loop
-    add-full-round
-    full-round-requires
-    add-n
-    loop-less
-    loop-again
-    sub-bytes-requires
-    shift-rows-requires
-    add-round-key-requires-2
-    returns)
+cipher-spec = tie.close (tie.spec full-rounds-requires last-round-requires returns)

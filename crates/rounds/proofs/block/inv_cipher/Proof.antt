@@ -1,100 +1,29 @@
--- `rounds::block::inv_cipher` meets its contract: with n rounds to go the loop still leads to what the start leads to.
-use mathlib.Core.Path.{_≡_, refl}
-use mathlib.Core.List.{List}
-use Prim.Native.Nat.{ℕ, _+_, _-_, _≤_, _<_}
-use native.Mathlib.Omega.{arith}
-use borrow.Author.Needs.{needs}
+-- `rounds::block::inv_cipher` is the full inverse rounds and the last one.
+use mathlib.Core.Path.{sym, _∙_}
 use denote.Ref.{now}
 use Rattle.words.specs.Words.{bytesOf}
-use Rattle.inverse_keys.specs.Keys.{InverseKeys}
 use Rattle.steps.specs.Steps.{InvSubBytes, InvShiftRows}
-use Rattle.rounds.specs.Rounds.{invRounds, InvCipher}
-use Rattle.rounds.proofs.Rounds.{invRounds-zero, invRounds-step}
-use Rattle.rounds.proofs.Keys.{first-key, last-key}
+use Rattle.rounds.proofs.Rounds.{invRounds-zero}
+use Rattle.rounds.proofs.Keys.{first-key}
+use borrow.Author.Needs.{needs}
 use Rattle.rounds.proofs.block.inv_cipher.Statement.{statement}
 use Rattle.rounds.proofs.block.inv_cipher.Tie as tie
 
-abbrev Inv-loop : tie.InvT-loop
-Inv-loop table keys nr columns s₀ n₀ s n =
-    (n ≤ nr - 1) × ((w : List ℕ) → InverseKeys nr w keys → invRounds (bytesOf w) n s ≡ invRounds (bytesOf w) (nr - 1) s₀)
+inv-full-rounds-requires : tie.Need-inv-full-rounds-requires
+inv-full-rounds-requires c κs = search needs
 
-abbrev μ-loop : tie.MeasureT-loop
-μ-loop table keys nr columns s₀ n₀ s n = n
+inv-last-round-requires : tie.Need-inv-last-round-requires
+inv-last-round-requires c κs = search needs
 
-unmixed-table-requires : tie.Need-unmixed-table-requires Inv-loop μ-loop
-unmixed-table-requires c κs = search needs
-
-add-round-key-requires : tie.Need-add-round-key-requires Inv-loop μ-loop
-add-round-key-requires c κs = search needs
-
-sub-n : tie.Need-sub-n Inv-loop μ-loop
-sub-n c = search needs
-
-loop-holds : tie.Need-loop-holds Inv-loop μ-loop
-loop-holds c = (search needs, λ w k. refl)
-
-inv-full-round-requires : tie.Need-inv-full-round-requires Inv-loop μ-loop
-inv-full-round-requires c κs = search needs
-
-sub-n-2 : tie.Need-sub-n-2 Inv-loop μ-loop
-sub-n-2 c = search needs
-
-loop-less : tie.Need-loop-less Inv-loop μ-loop
-loop-less c = search needs
-
-loop-again : tie.Need-loop-again Inv-loop μ-loop
-loop-again c =
-    let l = c .before .before .before .loop in
-    let nr = c .before .before .before .before .before .before .before .args .nr in
-    let one : l .n - 1 + 1 ≡ l .n = omega arith in
-    let inner : 1 ≤ l .n = omega arith in
-    let few : l .n < nr = omega arith in (
-      search needs,
-      λ w k.
-          let round = c .inv-full-round .ensures nr w k inner few in
-          let before = l .inv .1 w k in
-          cc (invRounds-step (bytesOf w) (l .s) (l .n - 1)),
-    )
-
-inv-shift-rows-requires : tie.Need-inv-shift-rows-requires Inv-loop μ-loop
-inv-shift-rows-requires c κs = search needs
-
-inv-sub-bytes-requires : tie.Need-inv-sub-bytes-requires Inv-loop μ-loop
-inv-sub-bytes-requires c κs = search needs
-
-add-round-key-requires-2 : tie.Need-add-round-key-requires-2 Inv-loop μ-loop
-add-round-key-requires-2 c κs = search needs
-
-returns : tie.Need-returns Inv-loop μ-loop
-unfolding InvCipher
+returns : tie.Need-returns
 returns c = λ w k.
-    let l = c .before .before .before .before .loop in
-    let start = c .before .before .before .before .before .before .before .before in
+    let start = c .before .before .before in
     let a = start .args in
-    let none : l .n ≡ 0 = omega arith in
-    let fits = start .pre .1 .1 .1 in
-    let before = l .inv .1 w k in
-    cc (
-      invRounds-zero (bytesOf w) (l .s),
-      first-key (a .nr) w (now (a .keys)) (InvSubBytes (InvShiftRows (l .s))) k fits,
-      last-key (a .nr) w (now (a .keys)) (a .block) k fits,
-    )
+    let s = c .before .inv-full-rounds .result in
+    c .inv-last-round .ensures
+    ∙ first-key (a .nr) w (now (a .keys)) (InvSubBytes (InvShiftRows s)) k (start .pre .1 .1)
+    ∙ sym (invRounds-zero (bytesOf w) s)
+    ∙ c .before .inv-full-rounds .ensures w k
 
 pub inv-cipher-spec : {M : Type 1} → statement M
-inv-cipher-spec =
-    tie.close
-    (tie.spec
-    Inv-loop
-    μ-loop
-    unmixed-table-requires
-    add-round-key-requires
-    sub-n
-    loop-holds
-    inv-full-round-requires
-    sub-n-2
-    loop-less
-    loop-again
-    inv-shift-rows-requires
-    inv-sub-bytes-requires
-    add-round-key-requires-2
-    returns)
+inv-cipher-spec = tie.close (tie.spec inv-full-rounds-requires inv-last-round-requires returns)
