@@ -4,10 +4,7 @@ use inverse_keys::unmix_keys;
 use key_schedule::expand;
 use rounds::cipher;
 use rounds::inv_cipher;
-use substitution::sub_table;
 ghost use mathlib.Core.Path.{_≡_};
-ghost use Rattle.words.specs.Words.{bytesOf};
-ghost use Rattle.key_schedule.specs.Expansion.{KeyExpansion};
 ghost use Rattle.cipher.specs.Aes.{AES128, InvAES128, AES256};
 
 // Two blocks.
@@ -16,31 +13,12 @@ pub struct Blocks {
     pub second: [u8; 16],
 }
 
-// The key schedule of AES-128. Its box is off the stack when it returns.
-fn schedule128(key: [u8; 16]) -> [u32; 44]
-    ensures { λ r. ⌜ bytesOf r ≡ KeyExpansion 4 10 key ⌝ }
-{
-    let table = sub_table();
-    let mut keys = [0u32; 44];
-    expand(&table, 4, 40, &key, &mut keys);
-    keys
-}
-
-// The key schedule of AES-256, likewise.
-fn schedule256(key: [u8; 32]) -> [u32; 60]
-    ensures { λ r. ⌜ bytesOf r ≡ KeyExpansion 8 14 key ⌝ }
-{
-    let table = sub_table();
-    let mut keys = [0u32; 60];
-    expand(&table, 8, 52, &key, &mut keys);
-    keys
-}
-
 // AES-128: the block encrypted under the key.
 pub fn encrypt(key: [u8; 16], block: [u8; 16]) -> [u8; 16]
     ensures { λ r. ⌜ r ≡ AES128 key block ⌝ }
 {
-    let keys = schedule128(key);
+    let mut keys = [0u32; 44];
+    expand(4, 40, &key, &mut keys);
     cipher(&keys, 10, block)
 }
 
@@ -48,7 +26,8 @@ pub fn encrypt(key: [u8; 16], block: [u8; 16]) -> [u8; 16]
 pub fn decrypt(key: [u8; 16], block: [u8; 16]) -> [u8; 16]
     ensures { λ r. ⌜ r ≡ InvAES128 key block ⌝ }
 {
-    let mut keys = schedule128(key);
+    let mut keys = [0u32; 44];
+    expand(4, 40, &key, &mut keys);
     unmix_keys(10, &mut keys);
     inv_cipher(&keys, 10, block)
 }
@@ -57,7 +36,8 @@ pub fn decrypt(key: [u8; 16], block: [u8; 16]) -> [u8; 16]
 pub fn encrypt256(key: [u8; 32], block: [u8; 16]) -> [u8; 16]
     ensures { λ r. ⌜ r ≡ AES256 key block ⌝ }
 {
-    let keys = schedule256(key);
+    let mut keys = [0u32; 60];
+    expand(8, 52, &key, &mut keys);
     cipher(&keys, 14, block)
 }
 
@@ -65,7 +45,8 @@ pub fn encrypt256(key: [u8; 32], block: [u8; 16]) -> [u8; 16]
 pub fn encrypt_pair(key: [u8; 16], first: [u8; 16], second: [u8; 16]) -> Blocks
     ensures { λ r. ⌜ (r .first ≡ AES128 key first) × (r .second ≡ AES128 key second) ⌝ }
 {
-    let keys = schedule128(key);
+    let mut keys = [0u32; 44];
+    expand(4, 40, &key, &mut keys);
     let one = cipher(&keys, 10, first);
     let two = cipher(&keys, 10, second);
     Blocks {
@@ -78,7 +59,8 @@ pub fn encrypt_pair(key: [u8; 16], first: [u8; 16], second: [u8; 16]) -> Blocks
 pub fn decrypt_pair(key: [u8; 16], first: [u8; 16], second: [u8; 16]) -> Blocks
     ensures { λ r. ⌜ (r .first ≡ InvAES128 key first) × (r .second ≡ InvAES128 key second) ⌝ }
 {
-    let mut keys = schedule128(key);
+    let mut keys = [0u32; 44];
+    expand(4, 40, &key, &mut keys);
     unmix_keys(10, &mut keys);
     let one = inv_cipher(&keys, 10, first);
     let two = inv_cipher(&keys, 10, second);
@@ -92,7 +74,8 @@ pub fn decrypt_pair(key: [u8; 16], first: [u8; 16], second: [u8; 16]) -> Blocks
 pub fn encrypt256_pair(key: [u8; 32], first: [u8; 16], second: [u8; 16]) -> Blocks
     ensures { λ r. ⌜ (r .first ≡ AES256 key first) × (r .second ≡ AES256 key second) ⌝ }
 {
-    let keys = schedule256(key);
+    let mut keys = [0u32; 60];
+    expand(8, 52, &key, &mut keys);
     let one = cipher(&keys, 14, first);
     let two = cipher(&keys, 14, second);
     Blocks {

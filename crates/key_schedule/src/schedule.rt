@@ -9,6 +9,7 @@ ghost use Rattle.substitution.specs.Field.{xtimes};
 ghost use Rattle.substitution.specs.Box.{SBox, TableOf};
 ghost use Rattle.key_schedule.specs.Expansion.{expanded, temp, word};
 ghost use Rattle.key_schedule.specs.Fours.{Fours};
+use substitution::sub_table;
 use substitution::times_two;
 use words::bytes_of;
 use words::word_of;
@@ -83,8 +84,8 @@ fn put_key(nk: usize, key: &[u8], w: &mut [u32])
     }
 }
 
-// The key schedule into lent words: the key's Nk words, and then `more` words, four after four.
-pub fn expand(table: &[u8; 256], nk: usize, more: usize, key: &[u8], w: &mut [u32])
+// The key's Nk words, and then `more` words, four after four, into lent words.
+fn put_schedule(table: &[u8; 256], nk: usize, more: usize, key: &[u8], w: &mut [u32])
     requires { ⌜ TableOf SBox (now table) ⌝ }
     requires { ⌜ (Fours nk more) × (more ≤ 60) ⌝ }
     requires { ⌜ (length (now key) ≡ 4 * nk) × (length (now w) ≡ nk + more) ⌝ }
@@ -104,4 +105,14 @@ pub fn expand(table: &[u8; 256], nk: usize, more: usize, key: &[u8], w: &mut [u3
         phase = next_phase(nk, phase);
         n += 4;
     }
+}
+
+// The key schedule into lent words: Nk of the key, and `more`. The box is off the stack when it returns.
+pub fn expand(nk: usize, more: usize, key: &[u8], w: &mut [u32])
+    requires { ⌜ (Fours nk more) × (more ≤ 60) ⌝ }
+    requires { ⌜ (length (now key) ≡ 4 * nk) × (length (now w) ≡ nk + more) ⌝ }
+    ensures { λ r. ⌜ bytesOf (now (w .exit)) ≡ expanded nk more (now (key .entry)) ⌝ }
+{
+    let table = sub_table();
+    put_schedule(&table, nk, more, key, w);
 }

@@ -1,12 +1,19 @@
 -- `cipher::decrypt` is AES-128 backwards: the key expanded, its round keys mixed back, and the inverse cipher under them.
 use mathlib.Core.Path.{_∙_}
 use Rattle.cipher.specs.Aes.{InvAES128}
+use Rattle.key_schedule.specs.Expansion.{KeyExpansion}
 use borrow.Author.Needs.{needs}
 use Rattle.cipher.proofs.decrypt.Statement.{statement}
 use Rattle.cipher.proofs.decrypt.Tie as tie
 
-schedule128-requires : tie.Need-schedule128-requires
-schedule128-requires c κs = search needs
+slice-aggregate-expand : tie.Need-slice-aggregate-expand
+slice-aggregate-expand c = search needs
+
+slice-aggregate-expand-2 : tie.Need-slice-aggregate-expand-2
+slice-aggregate-expand-2 c = search needs
+
+expand-requires : tie.Need-expand-requires
+expand-requires c κs = search needs
 
 slice-aggregate-unmix-keys : tie.Need-slice-aggregate-unmix-keys
 slice-aggregate-unmix-keys c = search needs
@@ -21,16 +28,18 @@ inv-cipher-requires : tie.Need-inv-cipher-requires
 inv-cipher-requires c κs = search needs
 
 returns : tie.Need-returns
-unfolding InvAES128
+unfolding InvAES128 KeyExpansion
 returns c =
-    let schedule = c .before .before .before .before .before .schedule128 in
-    c .inv-cipher .ensures (schedule .result) (c .before .before .before .unmix-keys .ensures) ∙ rw (schedule .ensures)
+    let schedule = c .before .before .before .before .before .before .expand in
+    c .inv-cipher .ensures (schedule .last .1 .1 .1 .0) (c .before .before .before .unmix-keys .ensures) ∙ rw (schedule .ensures)
 
 pub decrypt-spec : {M : Type 1} → statement M
 decrypt-spec =
     tie.close
     (tie.spec
-    schedule128-requires
+    slice-aggregate-expand
+    slice-aggregate-expand-2
+    expand-requires
     slice-aggregate-unmix-keys
     unmix-keys-requires
     slice-aggregate-inv-cipher

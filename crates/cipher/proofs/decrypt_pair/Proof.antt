@@ -1,12 +1,19 @@
 -- `cipher::decrypt_pair` expands the key once, for two blocks.
 use mathlib.Core.Path.{_∙_}
 use Rattle.cipher.specs.Aes.{InvAES128}
+use Rattle.key_schedule.specs.Expansion.{KeyExpansion}
 use borrow.Author.Needs.{needs}
 use Rattle.cipher.proofs.decrypt_pair.Statement.{statement}
 use Rattle.cipher.proofs.decrypt_pair.Tie as tie
 
-schedule128-requires : tie.Need-schedule128-requires
-schedule128-requires c κs = search needs
+slice-aggregate-expand : tie.Need-slice-aggregate-expand
+slice-aggregate-expand c = search needs
+
+slice-aggregate-expand-2 : tie.Need-slice-aggregate-expand-2
+slice-aggregate-expand-2 c = search needs
+
+expand-requires : tie.Need-expand-requires
+expand-requires c κs = search needs
 
 slice-aggregate-unmix-keys : tie.Need-slice-aggregate-unmix-keys
 slice-aggregate-unmix-keys c = search needs
@@ -27,19 +34,21 @@ inv-cipher-requires-2 : tie.Need-inv-cipher-requires-2
 inv-cipher-requires-2 c κs = search needs
 
 returns : tie.Need-returns
-unfolding InvAES128
+unfolding InvAES128 KeyExpansion
 returns c =
-    let schedule = c .before .before .before .before .before .before .before .schedule128 in
+    let schedule = c .before .before .before .before .before .before .before .before .expand in
     let keys = c .before .before .before .before .before .unmix-keys .ensures in (
-      c .before .before .inv-cipher .ensures (schedule .result) keys ∙ rw (schedule .ensures),
-      c .inv-cipher2 .ensures (schedule .result) keys ∙ rw (schedule .ensures),
+      c .before .before .inv-cipher .ensures (schedule .last .1 .1 .1 .0) keys ∙ rw (schedule .ensures),
+      c .inv-cipher2 .ensures (schedule .last .1 .1 .1 .0) keys ∙ rw (schedule .ensures),
     )
 
 pub decrypt-pair-spec : {M : Type 1} → statement M
 decrypt-pair-spec =
     tie.close
     (tie.spec
-    schedule128-requires
+    slice-aggregate-expand
+    slice-aggregate-expand-2
+    expand-requires
     slice-aggregate-unmix-keys
     unmix-keys-requires
     slice-aggregate-inv-cipher

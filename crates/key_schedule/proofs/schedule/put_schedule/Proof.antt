@@ -1,4 +1,4 @@
--- `key_schedule::schedule::expand` meets its contract: n words made, four a turn, are the schedule's first Nk + n.
+-- `key_schedule::schedule::put_schedule` meets its contract: n words made, four a turn, are the schedule's first Nk + n.
 use mathlib.Core.Path.{_≡_, refl, sym, ap, _∙_}
 use Prim.Native.Nat.{_+_, _-_, _/_, _%_, _≤_, _<_}
 use native.Mathlib.Omega.{arith}
@@ -12,8 +12,8 @@ use Rattle.substitution.specs.Field.{xtimes}
 use Rattle.key_schedule.specs.Expansion.{expanded}
 use Rattle.key_schedule.specs.Fours.{Fours}
 use Rattle.key_schedule.proofs.Fours.{expansion-turn}
-use Rattle.key_schedule.proofs.schedule.expand.Statement.{statement}
-use Rattle.key_schedule.proofs.schedule.expand.Tie as tie
+use Rattle.key_schedule.proofs.schedule.put_schedule.Statement.{statement}
+use Rattle.key_schedule.proofs.schedule.put_schedule.Tie as tie
 
 abbrev Inv-loop : tie.InvT-loop
 Inv-loop table nk more key w₀ phase₀ constant₀ n₀ w phase constant n =
@@ -164,8 +164,8 @@ returns c =
     omega (arith, l .inv .1 .1 .0, c .before .before .before .before .put-key .kept .1 .1 .0, start .pre .1 .1 .1) in
     ap bytesOf (sym (take-all (start .args .nk + start .args .more) (l .w) long)) ∙ (rw e at (l .inv .1 .1 .1 .1 .1))
 
-pub expand-spec : {M : Type 1} → statement M
-expand-spec =
+pub put-schedule-spec : {M : Type 1} → statement M
+put-schedule-spec =
     tie.close
     (tie.spec
     Inv-loop
