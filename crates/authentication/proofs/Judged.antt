@@ -1,12 +1,12 @@
 -- How a handler keeps its promise: it denied, or it granted to a key, and the request was judged so. And how a verdict is concluded: the
 -- unit and the lent bytes are left alone, or the answer is written.
-use Prim.Native.Nat.{ℕ, _≤_}
-use mathlib.Core.Path.{_≡_, refl, sym, ap, ap₂, _∙_}
+use Prim.Native.Nat.{ℕ}
+use mathlib.Core.Path.{_≡_, refl, sym, ap, _∙_, subst}
 use mathlib.Core.List.{List}
-use lib.ListN.{take}
 use Rattle.laws.specs.Answer.{lentAfter, Wrote}
 use Rattle.wire.specs.Signing.{signed}
-use Rattle.sizes.specs.Sizes.{accountKeySize}
+use Rattle.primitives.specs.Standards.{keyedBy}
+use Rattle.hmac.specs.declared.Keyed.{Keyed}
 use Rattle.unit.specs.Outcome.{Answers}
 use Rattle.unit.specs.Refusals.{refusalNumber, endOf, wrote}
 use Rattle.unit.specs.declared.TagUnit.{TagUnit}
@@ -14,28 +14,39 @@ use Rattle.unit.specs.declared.Step.{Step}
 use Rattle.unit.specs.declared.Reply.{Reply}
 use Rattle.unit.specs.declared.Refusal.{Refusal}
 use Rattle.authentication.specs.declared.Verdict.{Verdict}
-use Rattle.authentication.specs.declared.SigningKey.{SigningKey}
+use Rattle.authentication.specs.declared.Ruling.{Ruling}
 use Rattle.authentication.specs.Judgement.{Judgement, accepts, rejects, lastNonce, concluded}
-use Rattle.authentication.specs.Promises.{signingBytes, Signs, Signable, Judges, Grants, Denies}
+use Rattle.authentication.specs.Promises.{Refuses, Accepts, Rules, Judges, Grants, Denies}
 
 module _ (u : TagUnit) (id : ℕ) {j : Judgement} {v : Verdict} where
-  pub denial : {x : Refusal} → Denies x v → j ≡ rejects (refusalNumber x) → Judges u id j v
-  denial d is = record { judgedSo = rw (d .rulingIs) is; signable = d .signable }
+  pub denial : {x : Refusal} → Denies u x v → j ≡ rejects (refusalNumber x) → Judges u id j v
+  denial d is = record { judgedSo = rw (d .rulingIs) (record { unitIs = d .unitIs; refusesSo = is }); dataFit = d .dataFit }
 
-  pub grant : {after : TagUnit} {key : List ℕ} {k : SigningKey} {payload : List ℕ} → Signs key k → Grants after k payload v
+  pub grant : {after : TagUnit} (key : List ℕ) {k : Keyed} {payload : List ℕ} → k ≡ keyedBy key → Grants after k payload v
       → j ≡ accepts after (signed key (lastNonce u) id payload) → Judges u id j v
-  grant {after} {key} {k} {payload} s g is =
-      let keyed : signingBytes (v .key) ≡ key = ap signingBytes (g .keyIs) ∙ s .keyIs in
+  grant {after} key made g is =
       record {
         judgedSo =
-            rw (g .rulingIs, g .unitIs)
-            (is ∙ ap₂ (λ (b d : List ℕ). accepts after (signed b (lastNonce u) id d)) (sym keyed) (sym (g .dataAre)));
-        signable = record { dataFit = g .dataFit; keyFits = rw (g .keyIs) (s .fits) };
+            rw (g .rulingIs)
+            (record {
+              key = key;
+              keyIs = made;
+              acceptsSo = rw (g .unitIs) (is ∙ ap (λ (d : List ℕ). accepts after (signed key (lastNonce u) id d)) (sym (g .dataAre)));
+            });
+        dataFit = g .dataFit;
       }
 
 -- judged as another judgement says, with the answer's ID under another name
 pub judged-with : {u : TagUnit} {id other : ℕ} {j k : Judgement} {v : Verdict} → id ≡ other → j ≡ k → Judges u other k v → Judges u id j v
 judged-with i e p = rw (i, e) p
+
+-- what the ruling of a verdict says of the judgement
+module _ {u : TagUnit} {id : ℕ} {j : Judgement} {v : Verdict} (p : Judges u id j v) where
+  pub denied-so : {x : Refusal} → v .ruling ≡ Ruling.Denied x → Refuses u j v x
+  denied-so e = subst (λ (r : Ruling). Rules u id j v r) e (p .judgedSo)
+
+  pub granted-so : {held : Keyed} → v .ruling ≡ Ruling.Granted held → Accepts u id j v held
+  granted-so e = subst (λ (r : Ruling). Rules u id j v r) e (p .judgedSo)
 
 -- The end of a judgement
 module _ (u : TagUnit) (j : Judgement) (r : Step) where

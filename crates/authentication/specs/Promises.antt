@@ -5,14 +5,16 @@ use mathlib.Core.Bool.{true}
 use mathlib.Core.List.{List, []}
 use mathlib.Core.Option.{Option, some, none}
 use lib.ListN.{length, take, getD}
-use Rattle.sizes.specs.Sizes.{tagSize, accountKeySize, mostData}
+use Rattle.sizes.specs.Sizes.{tagSize, mostData}
+use Rattle.primitives.specs.Standards.{keyedBy}
+use Rattle.hmac.specs.declared.Keyed.{Keyed}
 use Rattle.wire.specs.Signing.{signed}
 use Rattle.unit.specs.declared.TagUnit.{TagUnit}
 use Rattle.unit.specs.declared.Refusal.{Refusal}
 use Rattle.unit.specs.Refusals.{refusalNumber}
 use Rattle.unit.specs.WellFormed.{wellFormed}
 use Rattle.authentication.specs.declared.Found.{Found}
-use Rattle.authentication.specs.declared.SigningKey.{SigningKey}
+use Rattle.authentication.specs.declared.Signer.{Signer}
 use Rattle.authentication.specs.declared.Ruling.{Ruling}
 use Rattle.authentication.specs.declared.Verdict.{Verdict}
 use Rattle.authentication.specs.Judgement.{Judgement, accepts, rejects, lastNonce}
@@ -31,42 +33,53 @@ pub record Finds (row : Option (List ℕ)) (l : List (List ℕ)) (f : Found) : T
   pub rowIs : row ≡ rowAt f l
   pub within : Within f (length l)
 
--- the bytes of a key that signs
-abbrev pub signingBytes : SigningKey → List ℕ
-signingBytes k = take (k .size) (k .bytes)
+-- the place of the key that was found
+abbrev pub placeIn : Signer → Found
+placeIn (Signer.Holder p k) = Found.At p
+placeIn Signer.Nobody = Found.Nowhere
 
-pub record Signs (key : List ℕ) (k : SigningKey) : Type 0 where
-  pub keyIs : signingBytes k ≡ key
-  pub fits : k .size ≤ accountKeySize
+abbrev pub ReadyFrom : List (List ℕ) → Signer → Type 0
+ReadyFrom l (Signer.Holder p k) = k ≡ keyedBy (getD l p [])
+ReadyFrom l Signer.Nobody = Unit
+
+-- a search found this row, if it is one, and made the key ready from it
+pub record Identifies (row : Option (List ℕ)) (l : List (List ℕ)) (s : Signer) : Type 0 where
+  pub finds : Finds row l (placeIn s)
+  pub readyFrom : ReadyFrom l s
 
 -- A request is judged on a well-formed unit, with additional data of the length that its shape says
 pub record Ready (u : TagUnit) (size : ℕ) (additional : List ℕ) : Type 0 where
   pub formed : wellFormed u ≡ true
   pub sized : tagSize + length additional ≡ size
 
--- the judgement that a verdict stands for, where the answer has this ID
-abbrev pub judgementOf : TagUnit → ℕ → Verdict → Ruling → Judgement
-judgementOf u id v (Ruling.Denied x) = rejects (refusalNumber x)
-judgementOf u id v Ruling.Granted =
-    accepts (v .unit) (signed (signingBytes (v .key)) (lastNonce u) id (take (v .size) (v .payload)))
+-- refused: the unit is left as it was
+pub record Refuses (u : TagUnit) (j : Judgement) (v : Verdict) (refusal : Refusal) : Type 0 where
+  pub unitIs : v .unit ≡ u
+  pub refusesSo : j ≡ rejects (refusalNumber refusal)
 
--- a verdict can be concluded: its data and its key fit
-pub record Signable (v : Verdict) : Type 0 where
-  pub dataFit : v .size ≤ mostData
-  pub keyFits : v .key .size ≤ accountKeySize
+-- accepted: the unit after it, and its data signed under the key whose ready form the verdict holds, where the answer has this ID
+pub record Accepts (u : TagUnit) (id : ℕ) (j : Judgement) (v : Verdict) (held : Keyed) : Type 0 where
+  pub key : List ℕ
+  pub keyIs : held ≡ keyedBy key
+  pub acceptsSo : j ≡ accepts (v .unit) (signed key (lastNonce u) id (take (v .size) (v .payload)))
+
+-- the judgement that a verdict stands for, by its ruling
+abbrev pub Rules : TagUnit → ℕ → Judgement → Verdict → Ruling → Type 0
+Rules u id j v (Ruling.Denied x) = Refuses u j v x
+Rules u id j v (Ruling.Granted held) = Accepts u id j v held
 
 -- a handler judged a request so
 pub record Judges (u : TagUnit) (id : ℕ) (j : Judgement) (v : Verdict) : Type 0 where
-  pub judgedSo : j ≡ judgementOf u id v (v .ruling)
-  pub signable : Signable v
+  pub judgedSo : Rules u id j v (v .ruling)
+  pub dataFit : v .size ≤ mostData
 
-pub record Grants (unit : TagUnit) (key : SigningKey) (payload : List ℕ) (v : Verdict) : Type 0 where
+pub record Grants (unit : TagUnit) (key : Keyed) (payload : List ℕ) (v : Verdict) : Type 0 where
   pub unitIs : v .unit ≡ unit
-  pub rulingIs : v .ruling ≡ Ruling.Granted
-  pub keyIs : v .key ≡ key
+  pub rulingIs : v .ruling ≡ Ruling.Granted key
   pub dataAre : take (v .size) (v .payload) ≡ payload
   pub dataFit : v .size ≤ mostData
 
-pub record Denies (refusal : Refusal) (v : Verdict) : Type 0 where
+pub record Denies (unit : TagUnit) (refusal : Refusal) (v : Verdict) : Type 0 where
+  pub unitIs : v .unit ≡ unit
   pub rulingIs : v .ruling ≡ Ruling.Denied refusal
-  pub signable : Signable v
+  pub dataFit : v .size ≤ mostData

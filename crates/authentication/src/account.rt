@@ -5,54 +5,74 @@ ghost use mathlib.Core.List.{[]};
 ghost use Prim.Native.Nat.{_≤_, _<_, _*_};
 ghost use lib.ListN.{length, getD};
 ghost use Rattle.sizes.specs.Sizes.{accountKeySize, mostLength};
+ghost use Rattle.primitives.specs.Standards.{keyedBy};
 ghost use Rattle.tables.specs.Rows.{rows, firstThat};
 ghost use Rattle.unit.specs.WellFormed.{wellFormed, heldKeys, ownerKey, ownerLegal, accountsLegal};
 ghost use Rattle.wire.specs.Shape.{request};
 ghost use Rattle.authentication.specs.Judgement.{tagged as isTagged, usedKey, signedByOwner};
-ghost use Rattle.authentication.specs.Promises.{Finds, Signs};
+ghost use Rattle.authentication.specs.Promises.{Finds, Identifies};
 use crate::Found;
-use crate::SigningKey;
+use crate::Signer;
+use crate::tagged;
+use primitives::Keyed;
 use sizes::ACCOUNT_KEY_SIZE;
 use sizes::NONCE_SIZE;
 use unit::Accounts;
 use unit::Owner;
 use unit::TagUnit;
 use wire::Head;
-use wire::signing;
 
-// Whether the request's tag is the one that this key makes with this nonce.
-pub fn tagged(key: &[u8], nonce: [u8; NONCE_SIZE], h: Head, additional: &[u8]) -> bool
-    requires { ⌜ (length (now key) ≤ accountKeySize) × (length (now additional) ≤ mostLength) ⌝ }
-    ensures { λ r. ⌜ r ≡ isTagged (now (key .entry)) nonce (request h (now (additional .entry))) ⌝ }
+// An account key that was tried on a request: the key made ready, and whether it signed the request.
+struct Trial {
+    key: Keyed,
+    signs: bool,
+}
+
+// Tries a key on a request.
+fn tried(bytes: &[u8], nonce: [u8; NONCE_SIZE], h: Head, additional: &[u8]) -> Trial
+    requires { ⌜ (length (now bytes) ≤ accountKeySize) × (length (now additional) ≤ mostLength) ⌝ }
+    ensures { λ r. ⌜ (r .key ≡ keyedBy (now (bytes .entry))) × (r .signs ≡ isTagged (now (bytes .entry)) nonce (request h (now (additional .entry)))) ⌝ }
 {
-    let made = signing::request_tag(key, nonce, h.id, h.size, additional);
-    let tag = h.tag;
-    octets::same(&made, &tag)
+    let key = primitives::ready_key(bytes);
+    let signs = tagged(key, nonce, h, additional);
+    Trial { key, signs }
 }
 
 // The first of the keys below the count, the most recently used first, whose tag matches.
-fn first_of(keys: &[u8], count: usize, nonce: [u8; NONCE_SIZE], h: Head, additional: &[u8]) -> Found
+fn first_of(
+    keys: &[u8],
+    count: usize,
+    nonce: [u8; NONCE_SIZE],
+    h: Head,
+    additional: &[u8],
+) -> Signer
     requires { ⌜ (count * accountKeySize ≤ length (now keys)) × (length (now additional) ≤ mostLength) ⌝ }
-    ensures { λ r. ⌜ Finds (firstThat (λ k. isTagged k nonce (request h (now (additional .entry)))) (rows accountKeySize count (now (keys .entry)))) (rows accountKeySize count (now (keys .entry))) r ⌝ }
+    ensures { λ r. ⌜ Identifies (firstThat (λ k. isTagged k nonce (request h (now (additional .entry)))) (rows accountKeySize count (now (keys .entry)))) (rows accountKeySize count (now (keys .entry))) r ⌝ }
 {
     let mut i = 0;
     let found = loop {
         if count <= i {
-            break Found::Nowhere;
+            break Signer::Nobody;
         }
-        let key = tables::row(keys, ACCOUNT_KEY_SIZE, count, i);
-        if tagged(key, nonce, h, additional) {
-            break Found::At(i);
+        let trial = tried(
+            tables::row(keys, ACCOUNT_KEY_SIZE, count, i),
+            nonce,
+            h,
+            additional,
+        );
+        if trial.signs {
+            let key = trial.key;
+            break Signer::Holder(i, key);
         }
         i += 1;
     };
     found
 }
 
-// The place of the account key that a request uses: the first held key, the most recently used first, whose tag matches.
-pub fn used_key(u: TagUnit, h: Head, additional: &[u8]) -> Found
+// The account key that a request uses: the first held key, the most recently used first, whose tag matches.
+pub fn used_key(u: TagUnit, h: Head, additional: &[u8]) -> Signer
     requires { ⌜ (wellFormed u ≡ true) × (length (now additional) ≤ mostLength) ⌝ }
-    ensures { λ r. ⌜ Finds (usedKey u (request h (now (additional .entry)))) (heldKeys (u .accounts)) r ⌝ }
+    ensures { λ r. ⌜ Identifies (usedKey u (request h (now (additional .entry)))) (heldKeys (u .accounts)) r ⌝ }
 {
     let n = u.nonces;
     let nonce = n.newest;
@@ -82,31 +102,23 @@ pub fn key_at(a: Accounts, place: usize) -> [u8; ACCOUNT_KEY_SIZE]
     octets::sixteen(tables::row(&keys, ACCOUNT_KEY_SIZE, a.count, place))
 }
 
-// The owner's place, if there is an owner whose key signed the request.
-pub fn signed_by_owner(u: TagUnit, h: Head, additional: &[u8]) -> Found
+// The owner's key, if there is an owner whose key signed the request.
+pub fn signed_by_owner(u: TagUnit, h: Head, additional: &[u8]) -> Signer
     requires { ⌜ (wellFormed u ≡ true) × (length (now additional) ≤ mostLength) ⌝ }
-    ensures { λ r. ⌜ Finds (signedByOwner u (request h (now (additional .entry)))) (heldKeys (u .accounts)) r ⌝ }
+    ensures { λ r. ⌜ Identifies (signedByOwner u (request h (now (additional .entry)))) (heldKeys (u .accounts)) r ⌝ }
 {
     let a = u.accounts;
     let found = owner_place(a);
     let Found::At(place) = found else {
-        return Found::Nowhere;
+        return Signer::Nobody;
     };
     let n = u.nonces;
     let nonce = n.newest;
-    let key = key_at(a, place);
-    if tagged(&key, nonce, h, additional) {
-        return Found::At(place);
+    let owner_key = key_at(a, place);
+    let trial = tried(&owner_key, nonce, h, additional);
+    if trial.signs {
+        let key = trial.key;
+        return Signer::Holder(place, key);
     }
-    Found::Nowhere
-}
-
-// An account key as the key that signs an answer.
-pub fn signing_key(key: [u8; ACCOUNT_KEY_SIZE]) -> SigningKey
-    ensures { λ r. ⌜ Signs key r ⌝ }
-{
-    SigningKey {
-        bytes: key,
-        size: ACCOUNT_KEY_SIZE,
-    }
+    Signer::Nobody
 }

@@ -1,17 +1,19 @@
 // The verdict on a request, and its end: the one place where the answers of the nine requests are signed and written.
 ghost use mathlib.Core.Path.{_≡_};
-ghost use Prim.Native.Nat.{_≤_};
+ghost use mathlib.Core.List.{List};
+ghost use Prim.Native.Nat.{ℕ, _≤_};
 ghost use lib.ListN.{length, take};
-ghost use Rattle.sizes.specs.Sizes.{accountKeySize, mostData, answerRoom};
+ghost use Rattle.sizes.specs.Sizes.{mostData, answerRoom};
+ghost use Rattle.primitives.specs.Standards.{keyedBy};
 ghost use Rattle.unit.specs.Outcome.{Answers};
+ghost use Rattle.unit.specs.declared.TagUnit.{TagUnit};
 ghost use Rattle.wire.specs.Signing.{signed};
 ghost use Rattle.laws.specs.Answer.{Wrote};
-ghost use Rattle.authentication.specs.Judgement.{concluded};
-ghost use Rattle.authentication.specs.Promises.{signingBytes, Grants, Denies, Signable, judgementOf};
+ghost use Rattle.authentication.specs.Judgement.{Judgement, lastNonce, concluded};
+ghost use Rattle.authentication.specs.Promises.{Grants, Denies, Judges};
 use crate::Ruling;
-use crate::SigningKey;
 use crate::Verdict;
-use sizes::ACCOUNT_KEY_SIZE;
+use primitives::Keyed;
 use sizes::MOST_DATA;
 use sizes::NONCE_SIZE;
 use unit::Refusal;
@@ -20,8 +22,8 @@ use unit::TagUnit;
 use unit::end;
 use wire::answer;
 
-// Granted, with these data in the answer.
-pub fn granted(unit: TagUnit, key: SigningKey, data: &[u8]) -> Verdict
+// Granted to a key, with these data in the answer.
+pub fn granted(unit: TagUnit, key: Keyed, data: &[u8]) -> Verdict
     requires { ⌜ length (now «data») ≤ mostData ⌝ }
     ensures { λ r. ⌜ Grants unit key (now («data» .entry)) r ⌝ }
 {
@@ -29,8 +31,7 @@ pub fn granted(unit: TagUnit, key: SigningKey, data: &[u8]) -> Verdict
     octets::put(&mut payload, 0, data);
     Verdict {
         unit,
-        ruling: Ruling::Granted,
-        key,
+        ruling: Ruling::Granted(key),
         size: data.len(),
         payload,
     }
@@ -38,16 +39,11 @@ pub fn granted(unit: TagUnit, key: SigningKey, data: &[u8]) -> Verdict
 
 // Denied.
 pub fn denied(unit: TagUnit, refusal: Refusal) -> Verdict
-    ensures { λ r. ⌜ Denies refusal r ⌝ }
+    ensures { λ r. ⌜ Denies unit refusal r ⌝ }
 {
-    let key = SigningKey {
-        bytes: [0; ACCOUNT_KEY_SIZE],
-        size: 0,
-    };
     Verdict {
         unit,
         ruling: Ruling::Denied(refusal),
-        key,
         size: 0,
         payload: [0; MOST_DATA],
     }
@@ -55,35 +51,33 @@ pub fn denied(unit: TagUnit, refusal: Refusal) -> Verdict
 
 // Writes an answer: the data, signed with a key and a nonce.
 fn write_signed(
-    k: SigningKey,
+    key: Keyed,
     nonce: [u8; NONCE_SIZE],
     id: u8,
     size: usize,
     payload: [u8; MOST_DATA],
     answer: &mut [u8],
 ) -> usize
-    requires { ⌜ (k .size ≤ accountKeySize) × ((size ≤ mostData) × (answerRoom ≤ length (now answer))) ⌝ }
-    ensures { λ r. ⌜ Wrote (signed (signingBytes k) nonce id (take size payload)) r (now (answer .entry)) (now (answer .exit)) ⌝ }
+    requires { ⌜ (size ≤ mostData) × (answerRoom ≤ length (now answer)) ⌝ }
+    ensures { λ r. ⌜ ((k : List ℕ) → key ≡ keyedBy k → Wrote (signed k nonce id (take size payload)) r (now (answer .entry)) (now (answer .exit))) ⌝ }
 {
-    let key = k.bytes;
-    let key_size = k.size;
-    answer::sign(&key[..key_size], nonce, id, &payload[..size], answer)
+    answer::sign(key, nonce, id, &payload[..size], answer)
 }
 
-// Ends a request that was judged on this unit: refuses, or writes the signed answer.
-pub fn conclude(u: TagUnit, v: Verdict, id: u8, answer: &mut [u8]) -> Step
-    requires { ⌜ Signable v × (answerRoom ≤ length (now answer)) ⌝ }
-    ensures { λ r. ⌜ Answers (concluded u (judgementOf u id v (v .ruling))) (r .unit) (r .reply) (now (answer .entry)) (now (answer .exit)) ⌝ }
+// Ends a request that was judged on a unit with this nonce: refuses, or writes the signed answer.
+pub fn conclude(v: Verdict, nonce: [u8; NONCE_SIZE], id: u8, answer: &mut [u8]) -> Step
+    requires { ⌜ (v .size ≤ mostData) × (answerRoom ≤ length (now answer)) ⌝ }
+    ensures { λ r. ⌜ ((u : TagUnit) (j : Judgement) → nonce ≡ lastNonce u → Judges u id j v → Answers (concluded u j) (r .unit) (r .reply) (now (answer .entry)) (now (answer .exit))) ⌝ }
 {
     let ruling = v.ruling;
     match ruling {
-        Ruling::Denied(refusal) => end::refuse(u, refusal),
-        Ruling::Granted => {
-            let n = u.nonces;
-            let nonce = n.newest;
-            let key = v.key;
-            let payload = v.payload;
+        Ruling::Denied(refusal) => {
+            let unit = v.unit;
+            end::refuse(unit, refusal)
+        }
+        Ruling::Granted(key) => {
             let after = v.unit;
+            let payload = v.payload;
             let count = write_signed(key, nonce, id, v.size, payload, answer);
             end::accept(after, count)
         }

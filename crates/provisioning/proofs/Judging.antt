@@ -114,7 +114,7 @@ module _ (u : TagUnit) (q : Request) where
 
   pub parameters-read : {key used block plain : List ℕ} {after : Accounts} → usedKey u q ≡ some used → key ≡ used
       → plain ≡ parameters (u .settings) (u .clock .seconds) → block ≡ AES128 key plain → after ≡ keyUsed used (u .accounts)
-      → readParameters u q ≡ accepts (withAccounts after u) (answered key u q block)
+      → readParameters u q ≡ accepts (withAccounts after u) (answered used u q block)
   unfolding readParameters
   parameters-read e k p b a = rw (e, a, b, p, k)
 
@@ -132,7 +132,7 @@ module _ (u : TagUnit) (q : Request) where
 
   pub key-set : {key used identity : List ℕ} {after : TagUnit} {keys : Accounts} → signedByOwner u q ≡ some used → key ≡ used → mayReplace u q ≡ true
       → identity ≡ decryptedKey key (q .additional) → after ≡ awaiting identity u → keys ≡ keyUsed used (u .accounts)
-      → setKey u q ≡ accepts (withAccounts keys after) (answered key u q [])
+      → setKey u q ≡ accepts (withAccounts keys after) (answered used u q [])
   unfolding setKey
   key-set e k p d a s = rw (e, p, a, s, d, k)
 
@@ -144,10 +144,10 @@ module _ (u : TagUnit) (q : Request) where
   unfolding clearKey
   clear-unproved e p = rw (e, p)
 
-  pub key-cleared : {key used : List ℕ} {after : TagUnit} → signedByOwner u q ≡ some used → key ≡ used → proves u (q .additional) ≡ true
-      → after ≡ cleared u → clearKey u q ≡ accepts after (answered key u q [])
+  pub key-cleared : {used : List ℕ} {after : TagUnit} → signedByOwner u q ≡ some used → proves u (q .additional) ≡ true → after ≡ cleared u
+      → clearKey u q ≡ accepts after (answered used u q [])
   unfolding clearKey
-  key-cleared e k p a = rw (e, p, a, k)
+  key-cleared e p a = rw (e, p, a)
 
   pub recover-nowhere : ownerKey (u .accounts) ≡ none → recoverKey u q ≡ notAuthenticated
   unfolding recoverKey
@@ -170,19 +170,19 @@ module _ (u : TagUnit) (q : Request) where
       key-recovered p k d = rw (e, t, p, d, k)
 
 -- 0x01: the accounts after it, the bits and what is shown
-pub state-read : (u : TagUnit) (q : Request) (place : ℕ) {key shown : List ℕ} {owned used : Accounts} {owner : Bool} {bits : ℕ}
-    → usedKey u q ≡ some (getD (heldKeys (u .accounts)) place []) → key ≡ getD (heldKeys (u .accounts)) place []
+pub state-read : (u : TagUnit) (q : Request) (place : ℕ) {shown : List ℕ} {owned used : Accounts} {owner : Bool} {bits : ℕ}
+    → usedKey u q ≡ some (getD (heldKeys (u .accounts)) place [])
     → owned ≡ ownedBy (getD (heldKeys (u .accounts)) place []) (u .accounts)
     → owner ≡ isKey (ownerKey owned) (getD (heldKeys owned) place []) → bits ≡ stateBits (u .identity .held) owner
     → shown ≡ shownIdentifier u → used ≡ keyUsed (getD (heldKeys owned) place []) owned
-    → readState u q ≡ accepts (withAccounts used u) (answered key u q (bits ∷ shown))
+    → readState u q ≡ accepts (withAccounts used u) (answered (getD (heldKeys (u .accounts)) place []) u q (bits ∷ shown))
 unfolding readState
-state-read u q place {key} {shown} {owned} {used} {owner} {bits} e k o is b s a =
+state-read u q place {shown} {owned} {used} {owner} {bits} e o is b s a =
     let whose : owner ≡ isKey (ownerKey owned) (getD (heldKeys (u .accounts)) place [])
     = is ∙ ap (λ (l : List (List ℕ)). isKey (ownerKey owned) (getD l place [])) (owned-held (u .accounts) place o) in
     let first : used ≡ keyUsed (getD (heldKeys (u .accounts)) place []) owned
     = a ∙ ap (λ (l : List (List ℕ)). keyUsed (getD l place []) owned) (owned-held (u .accounts) place o) in
-    rw (e, k, b, whose, s, first, o)
+    rw (e, b, whose, s, first, o)
 
 module _ (u : TagUnit) {some : Bool} {r id : List ℕ} (c : Current u some r id) where
   pub shown-all : some ≡ true → id ≡ shownIdentifier u

@@ -9,6 +9,7 @@ ghost use Rattle.wire.specs.Shape.{request};
 ghost use Rattle.authentication.specs.Promises.{Ready, Judges};
 ghost use Rattle.provisioning.specs.Provisioning.{mayReplace, awaiting as awaitingUnit, cleared as clearedUnit, setKey, clearKey, recoverKey};
 use authentication::Found;
+use authentication::Signer;
 use authentication::Verdict;
 use authentication::account;
 use authentication::answering;
@@ -55,7 +56,7 @@ pub fn set_key(u: TagUnit, h: Head, additional: &[u8]) -> Verdict
     ensures { λ r. ⌜ Judges u (h .id) (setKey u (request h (now (additional .entry)))) r ⌝ }
 {
     let found = account::signed_by_owner(u, h, additional);
-    let Found::At(place) = found else {
+    let Signer::Holder(place, ready) = found else {
         return answering::denied(u, Refusal::NotAuthenticated);
     };
     if !may_replace(u, h, additional) {
@@ -65,7 +66,7 @@ pub fn set_key(u: TagUnit, h: Head, additional: &[u8]) -> Verdict
     let key = account::key_at(a, place);
     let mut after = awaiting(u, key_blocks::decrypted_key(key, additional));
     after.accounts = account_keys::used(a, place);
-    answering::granted(after, account::signing_key(key), b"")
+    answering::granted(after, ready, b"")
 }
 
 // The unit cleared: fresh, but for settings, clock, issued nonces, battery and pairing.
@@ -89,15 +90,13 @@ pub fn clear_key(u: TagUnit, h: Head, additional: &[u8]) -> Verdict
     ensures { λ r. ⌜ Judges u (h .id) (clearKey u (request h (now (additional .entry)))) r ⌝ }
 {
     let found = account::signed_by_owner(u, h, additional);
-    let Found::At(place) = found else {
+    let Signer::Holder(_, ready) = found else {
         return answering::denied(u, Refusal::NotAuthenticated);
     };
     if !identity::proves(u, additional) {
         return answering::denied(u, Refusal::NotAuthenticated);
     }
-    let a = u.accounts;
-    let key = account::signing_key(account::key_at(a, place));
-    answering::granted(cleared(u), key, b"")
+    answering::granted(cleared(u), ready, b"")
 }
 
 // Whether consent is left or pairing is on.
@@ -123,7 +122,7 @@ pub fn recover_key(u: TagUnit, h: Head, additional: &[u8]) -> Verdict
     let recovery = identity::derived_key(u, signing::RECOVERY);
     let n = u.nonces;
     let nonce = n.newest;
-    let right = identity::tagged(recovery, nonce, h, additional);
+    let right = authentication::tagged(recovery, nonce, h, additional);
     let agreed = consents(u.consent, u.pairing);
     if !right {
         return answering::denied(u, Refusal::NotAuthenticated);

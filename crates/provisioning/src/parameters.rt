@@ -5,7 +5,7 @@ ghost use Rattle.unit.specs.WellFormed.{powerLegal};
 ghost use Rattle.wire.specs.Shape.{request};
 ghost use Rattle.authentication.specs.Promises.{Ready, Judges};
 ghost use Rattle.provisioning.specs.Provisioning.{wireByte, parameters as parametersOf, readParameters};
-use authentication::Found;
+use authentication::Signer;
 use authentication::Verdict;
 use authentication::account;
 use authentication::answering;
@@ -52,7 +52,7 @@ pub fn read_parameters(u: TagUnit, h: Head, additional: &[u8]) -> Verdict
     ensures { λ r. ⌜ Judges u (h .id) (readParameters u (request h (now (additional .entry)))) r ⌝ }
 {
     let found = account::used_key(u, h, additional);
-    let Found::At(place) = found else {
+    let Signer::Holder(place, ready) = found else {
         return answering::denied(u, Refusal::NotAuthenticated);
     };
     let a = u.accounts;
@@ -62,5 +62,5 @@ pub fn read_parameters(u: TagUnit, h: Head, additional: &[u8]) -> Verdict
     let used = account_keys::used(a, place);
     let mut after = u;
     after.accounts = used;
-    answering::granted(after, account::signing_key(key), &block)
+    answering::granted(after, ready, &block)
 }

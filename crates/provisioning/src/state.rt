@@ -8,7 +8,7 @@ ghost use Rattle.unit.specs.WellFormed.{heldKeys, ownerKey, accountsLegal, owne
 ghost use Rattle.wire.specs.Shape.{request};
 ghost use Rattle.authentication.specs.Promises.{Ready, Judges};
 ghost use Rattle.provisioning.specs.Provisioning.{ownedBy, isKey, stateBits, readState};
-use authentication::Found;
+use authentication::Signer;
 use authentication::Verdict;
 use authentication::account;
 use authentication::answering;
@@ -72,11 +72,10 @@ pub fn read_state(u: TagUnit, h: Head, additional: &[u8]) -> Verdict
     ensures { λ r. ⌜ Judges u (h .id) (readState u (request h (now (additional .entry)))) r ⌝ }
 {
     let found = account::used_key(u, h, additional);
-    let Found::At(place) = found else {
+    let Signer::Holder(place, ready) = found else {
         return answering::denied(u, Refusal::NotAuthenticated);
     };
     let a = u.accounts;
-    let key = account::signing_key(account::key_at(a, place));
     let owned = owned_by(a, place);
     let bits = state_bits(u.identity.held, owns(owned, place));
     let used = account_keys::used(owned, place);
@@ -86,8 +85,8 @@ pub fn read_state(u: TagUnit, h: Head, additional: &[u8]) -> Verdict
     if i.some {
         let id = i.id;
         let data = state_of(bits, id);
-        return answering::granted(after, key, &data);
+        return answering::granted(after, ready, &data);
     }
     let data = [bits];
-    answering::granted(after, key, &data)
+    answering::granted(after, ready, &data)
 }

@@ -21,9 +21,9 @@ use Rattle.unit.specs.declared.Reply.{Reply}
 use Rattle.unit.specs.declared.Refusal.{Refusal}
 use Rattle.unit.proofs.Kept.{spent-kept}
 use Rattle.unit.proofs.Ends.{refused-answers}
-use Rattle.authentication.specs.Judgement.{rejects, notAuthenticated, invalidValue, concluded}
+use Rattle.authentication.specs.Judgement.{Judgement, rejects, notAuthenticated, invalidValue, concluded}
 use Rattle.authentication.specs.declared.Verdict.{Verdict}
-use Rattle.authentication.specs.Promises.{Ready, Judges, judgementOf}
+use Rattle.authentication.specs.Promises.{Ready, Judges}
 use Rattle.authentication.proofs.Judged.{refusal}
 use Rattle.sizes.specs.Sizes.{headSize}
 use Rattle.requests.specs.Write.{byId, needsKey, keyThere, judged, written}
@@ -96,8 +96,8 @@ module _ (u : TagUnit) (w : List ℕ) (reach : ℕ) where
 
       pub write-judged : (r : Step) {v : Verdict} {before last : List ℕ} → judged u w reach ≡ byId (spent u) (parsed w) reach
           → Judges after (h .id) (byId after (request h (take (length w - headSize) (drop headSize w))) reach) v
-          → Answers (concluded after (judgementOf after (h .id) v (v .ruling))) (r .unit) (r .reply) before last
+          → ((j : Judgement) → Judges after (h .id) j v → Answers (concluded after j) (r .unit) (r .reply) before last)
           → Answers (written u w reach) (r .unit) (r .reply) before last
       write-judged r is p ends =
           let e = is ∙ ap (λ (q : Request). byId (spent u) q reach) (sym head) in
-          rw (written-judged within, e, ← changed) (rw (← p .judgedSo, tail-is) at ends)
+          rw (written-judged within, e, ← changed) (rw tail-is at (ends _ p))

@@ -103,6 +103,8 @@ pub fn write(u: TagUnit, w: &[u8], reach: u32, answer: &mut [u8]) -> Step
     if !key_there(h.id, u.identity.held) {
         return end::refuse(after, Refusal::NotAuthenticated);
     }
+    let n = after.nonces;
+    let nonce = n.newest;
     let v = by_id(after, h, &w[HEAD_SIZE..], reach as u8);
-    answering::conclude(after, v, h.id, answer)
+    answering::conclude(v, nonce, h.id, answer)
 }

@@ -31,7 +31,7 @@ pub fn protect(u: TagUnit, h: Head, additional: &[u8]) -> Verdict
     let key = identity::derived_key(u, signing::PROTECTION);
     let n = u.nonces;
     let nonce = n.newest;
-    if !identity::tagged(key, nonce, h, additional) {
+    if !authentication::tagged(key, nonce, h, additional) {
         return answering::denied(u, Refusal::NotAuthenticated);
     }
     let flag = flag_of(additional);
@@ -50,7 +50,7 @@ pub fn unprotect(u: TagUnit, h: Head, additional: &[u8]) -> Verdict
     let key = identity::derived_key(u, signing::PROTECTION);
     let n = u.nonces;
     let nonce = n.newest;
-    if !identity::tagged(key, nonce, h, additional) {
+    if !authentication::tagged(key, nonce, h, additional) {
         return answering::denied(u, Refusal::NotAuthenticated);
     }
     if !identity::proves(u, additional) {

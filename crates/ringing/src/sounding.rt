@@ -3,18 +3,19 @@ ghost use mathlib.Core.Path.{_≡_};
 ghost use mathlib.Core.Bool.{_||_};
 ghost use Prim.Native.Nat.{_≤_};
 ghost use lib.ListN.{length};
-ghost use Rattle.sizes.specs.Sizes.{accountKeySize, mostLength, mostComponents};
+ghost use Rattle.sizes.specs.Sizes.{mostLength, mostComponents};
+ghost use Rattle.primitives.specs.Standards.{keyedBy};
 ghost use Rattle.wire.specs.Shape.{request};
 ghost use Rattle.wire.specs.Signing.{ringKey, ringId};
 ghost use Rattle.authentication.specs.Judgement.{tagged as isTagged, lastNonce};
-ghost use Rattle.authentication.specs.Promises.{Ready, Judges, Signs, signingBytes};
+ghost use Rattle.authentication.specs.Promises.{Ready, Judges};
 ghost use mathlib.Core.List.{_∷_};
 ghost use Rattle.wire.specs.Signing.{failed};
 ghost use Rattle.ringing.specs.Ringing.{skips as isSkipped, allOfNone, askedTimeout, ringMask, ringLegal, heldVolume, stopDecision, ringDecision, rung as rungBy, ring as ringBy, soundState, readSound, ringData};
-use authentication::SigningKey;
 use authentication::Verdict;
 use authentication::answering;
 use authentication::identity;
+use primitives::Keyed;
 use sizes::HIGHEST_VOLUME;
 use sizes::LONGEST_RING;
 use unit::Protection;
@@ -164,8 +165,8 @@ fn fail_data(sound: Sound) -> [u8; answer::NOTICE_SIZE]
 }
 
 // Rings, stops, or fails and changes nothing; the answer is a notice, signed with the write's own nonce.
-fn rung(u: TagUnit, key: SigningKey, decision: Decision, volume: u8, left: u16) -> Verdict
-    requires { ⌜ Signs (ringKey (u .identity .bytes)) key ⌝ }
+fn rung(u: TagUnit, key: Keyed, decision: Decision, volume: u8, left: u16) -> Verdict
+    requires { ⌜ key ≡ keyedBy (ringKey (u .identity .bytes)) ⌝ }
     ensures { λ r. ⌜ Judges u ringId (rungBy decision u volume left) r ⌝ }
 {
     match decision {
@@ -189,9 +190,9 @@ fn rung(u: TagUnit, key: SigningKey, decision: Decision, volume: u8, left: u16) 
 }
 
 // Whether a ring is let through: by the skip flag, or by its tag.
-fn let_through(u: TagUnit, key: SigningKey, h: Head, additional: &[u8]) -> bool
-    requires { ⌜ (key .size ≤ accountKeySize) × (length (now additional) ≤ mostLength) ⌝ }
-    ensures { λ r. ⌜ r ≡ (isSkipped (u .protection) || isTagged (signingBytes key) (lastNonce u) (request h (now (additional .entry)))) ⌝ }
+fn let_through(u: TagUnit, key: Keyed, h: Head, additional: &[u8]) -> bool
+    requires { ⌜ (key ≡ keyedBy (ringKey (u .identity .bytes))) × (length (now additional) ≤ mostLength) ⌝ }
+    ensures { λ r. ⌜ r ≡ (isSkipped (u .protection) || isTagged (ringKey (u .identity .bytes)) (lastNonce u) (request h (now (additional .entry)))) ⌝ }
 {
     let protection = u.protection;
     if skips(protection) {
@@ -199,7 +200,7 @@ fn let_through(u: TagUnit, key: SigningKey, h: Head, additional: &[u8]) -> bool
     }
     let n = u.nonces;
     let nonce = n.newest;
-    identity::tagged(key, nonce, h, additional)
+    authentication::tagged(key, nonce, h, additional)
 }
 
 // 0x05: rings, or stops the ring, where parts can be reached.
@@ -248,7 +249,7 @@ pub fn read_sound(u: TagUnit, h: Head, additional: &[u8]) -> Verdict
     let key = identity::derived_key(u, signing::RING);
     let n = u.nonces;
     let nonce = n.newest;
-    if !identity::tagged(key, nonce, h, additional) {
+    if !authentication::tagged(key, nonce, h, additional) {
         return answering::denied(u, Refusal::NotAuthenticated);
     }
     let sound = u.sound;

@@ -1,11 +1,14 @@
 // Writing an answer into the bytes that the caller lends.
-ghost use Prim.Native.Nat.{_≤_};
+ghost use Prim.Native.Nat.{ℕ, _≤_};
 ghost use mathlib.Core.Path.{_≡_};
+ghost use mathlib.Core.List.{List};
 ghost use lib.ListN.{length};
-ghost use Rattle.sizes.specs.Sizes.{accountKeySize, mostData, answerRoom};
+ghost use Rattle.sizes.specs.Sizes.{mostData, answerRoom};
+ghost use Rattle.primitives.specs.Standards.{keyedBy};
 ghost use Rattle.wire.specs.Signing.{signed, noticeData, ringNotice};
 ghost use Rattle.laws.specs.Answer.{Wrote};
 use crate::signing;
+use primitives::Keyed;
 use sizes::HEAD_SIZE;
 use sizes::IDENTITY_KEY_SIZE;
 use sizes::NONCE_SIZE;
@@ -26,10 +29,10 @@ pub const BY_REQUEST: u8 = 4;
 
 pub const NOTICE_SIZE: usize = 4;
 
-// Writes the signed answer to a request: ID, length, tag, data. Gives the number of bytes written.
-pub fn sign(key: &[u8], nonce: [u8; NONCE_SIZE], id: u8, data: &[u8], answer: &mut [u8]) -> usize
-    requires { ⌜ (length (now key) ≤ accountKeySize) × ((length (now «data») ≤ mostData) × (answerRoom ≤ length (now answer))) ⌝ }
-    ensures { λ r. ⌜ Wrote (signed (now (key .entry)) nonce id (now («data» .entry))) r (now (answer .entry)) (now (answer .exit)) ⌝ }
+// Writes the signed answer to a request, under a key that was made ready: ID, length, tag, data. Gives the number of bytes written.
+pub fn sign(key: Keyed, nonce: [u8; NONCE_SIZE], id: u8, data: &[u8], answer: &mut [u8]) -> usize
+    requires { ⌜ (length (now «data») ≤ mostData) × (answerRoom ≤ length (now answer)) ⌝ }
+    ensures { λ r. ⌜ ((k : List ℕ) → key ≡ keyedBy k → Wrote (signed k nonce id (now («data» .entry))) r (now (answer .entry)) (now (answer .exit))) ⌝ }
 {
     let size = TAG_SIZE + data.len();
     let tag = signing::answer_tag(key, nonce, id, data);
@@ -58,7 +61,8 @@ pub fn stop_notice(
     requires { ⌜ answerRoom ≤ length (now answer) ⌝ }
     ensures { λ r. ⌜ Wrote (ringNotice identity nonce status 0 0) r (now (answer .entry)) (now (answer .exit)) ⌝ }
 {
-    let key = signing::derived_key(signing::RING, identity);
+    let ring_key = signing::derived_key(signing::RING, identity);
+    let key = primitives::ready_key(&ring_key);
     let data = notice_data(status, 0, 0);
-    sign(&key, nonce, RING_ID, &data, answer)
+    sign(key, nonce, RING_ID, &data, answer)
 }

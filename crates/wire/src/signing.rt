@@ -1,10 +1,12 @@
 // Keys made from the identity key, key proofs, and the tags of requests and answers.
 ghost use mathlib.Core.Path.{_≡_};
-ghost use mathlib.Core.List.{_++_, _∷_, []};
-ghost use Prim.Native.Nat.{_≤_};
+ghost use mathlib.Core.List.{List, _++_, _∷_, []};
+ghost use Prim.Native.Nat.{ℕ, _≤_};
 ghost use lib.ListN.{length};
-ghost use Rattle.sizes.specs.Sizes.{accountKeySize, mostLength, mostData};
+ghost use Rattle.sizes.specs.Sizes.{mostLength, mostData};
+ghost use Rattle.primitives.specs.Standards.{keyedBy};
 ghost use Rattle.wire.specs.Signing.{version, firstBytes, derivedKey, keyProof, requestTag, answerTag};
+use primitives::Keyed;
 use sizes::DIGEST_SIZE;
 use sizes::IDENTITY_KEY_SIZE;
 use sizes::NONCE_SIZE;
@@ -59,30 +61,30 @@ fn covered(nonce: [u8; NONCE_SIZE], id: u8, size: u8) -> [u8; COVERED_SIZE]
     head
 }
 
-// The tag of a request.
+// The tag of a request, under a key that was made ready.
 pub fn request_tag(
-    key: &[u8],
+    key: Keyed,
     nonce: [u8; NONCE_SIZE],
     id: u8,
     size: u8,
     additional: &[u8],
 ) -> [u8; TAG_SIZE]
-    requires { ⌜ (length (now key) ≤ accountKeySize) × (length (now additional) ≤ mostLength) ⌝ }
-    ensures { λ r. ⌜ r ≡ requestTag (now (key .entry)) nonce id size (now (additional .entry)) ⌝ }
+    requires { ⌜ length (now additional) ≤ mostLength ⌝ }
+    ensures { λ r. ⌜ ((k : List ℕ) → key ≡ keyedBy k → r ≡ requestTag k nonce id size (now (additional .entry))) ⌝ }
 {
     let head = covered(nonce, id, size);
-    let d = primitives::mac(key, &head, additional, b"");
+    let d = primitives::mac_under(key, &head, additional, b"");
     first_bytes(d)
 }
 
-// The tag of an answer.
-pub fn answer_tag(key: &[u8], nonce: [u8; NONCE_SIZE], id: u8, data: &[u8]) -> [u8; TAG_SIZE]
-    requires { ⌜ (length (now key) ≤ accountKeySize) × (length (now «data») ≤ mostData) ⌝ }
-    ensures { λ r. ⌜ r ≡ answerTag (now (key .entry)) nonce id (now («data» .entry)) ⌝ }
+// The tag of an answer, under a key that was made ready.
+pub fn answer_tag(key: Keyed, nonce: [u8; NONCE_SIZE], id: u8, data: &[u8]) -> [u8; TAG_SIZE]
+    requires { ⌜ length (now «data») ≤ mostData ⌝ }
+    ensures { λ r. ⌜ ((k : List ℕ) → key ≡ keyedBy k → r ≡ answerTag k nonce id (now («data» .entry))) ⌝ }
 {
     let size = TAG_SIZE + data.len();
     let head = covered(nonce, id, size as u8);
     let last = [0x01];
-    let d = primitives::mac(key, &head, data, &last);
+    let d = primitives::mac_under(key, &head, data, &last);
     first_bytes(d)
 }

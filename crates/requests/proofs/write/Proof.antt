@@ -7,7 +7,7 @@ use Rattle.unit.proofs.Lines.{lines}
 use Rattle.unit.proofs.Masks.{inside-small}
 use borrow.Author.Needs.{needs}
 use borrow.Author.Tests.{not-true, not-false}
-use mathlib.Core.Path.{_∙_}
+use mathlib.Core.Path.{refl, _∙_}
 use native.Mathlib.Omega.{arith}
 use Rattle.requests.proofs.write.Statement.{statement}
 use Rattle.requests.proofs.write.Tie as tie
@@ -96,14 +96,14 @@ returns-4 c =
 
 sub-by-id : tie.Need-sub-by-id
 sub-by-id c =
-    let if2-at = c .before .before .before .before .before in
+    let if2-at = c .before .before .before .before .before .before .before in
     let shape-legal-at = if2-at .before in
     let start = shape-legal-at .before .before .before .before .before .before in
     head-inside (start .args .w .now) (granted (shape-legal-at .shape-legal .ensures) (if2-at .if2 .left))
 
 part-by-id-start : tie.Need-part-by-id-start
 part-by-id-start c =
-    let if2-at = c .before .before .before .before .before in
+    let if2-at = c .before .before .before .before .before .before .before in
     let shape-legal-at = if2-at .before in
     let start = shape-legal-at .before .before .before .before .before .before in
     head-inside (start .args .w .now) (granted (shape-legal-at .shape-legal .ensures) (if2-at .if2 .left))
@@ -113,7 +113,7 @@ part-by-id-end c = search needs
 
 cast-by-id : tie.Need-cast-by-id
 cast-by-id c =
-    let if1-at = c .before .before .before .before .before .before .before .before in
+    let if1-at = c .before .before .before .before .before .before .before .before .before .before in
     let inside-at = if1-at .before in
     let start = inside-at .before .before .before .before in
     let small = inside-small (start .args .reach) (start .args .u .settings .components) (lines (start .args .u) (start .pre .0) .settings .components)
@@ -122,7 +122,7 @@ cast-by-id c =
 
 by-id-requires : tie.Need-by-id-requires
 by-id-requires c κs =
-    let head-of-at = c .before .before .before in
+    let head-of-at = c .before .before .before .before .before in
     let if2-at = head-of-at .before .before .before in
     let shape-legal-at = if2-at .before in
     let if1-at = shape-legal-at .before in
@@ -135,9 +135,9 @@ by-id-requires c κs =
 
 conclude-requires : tie.Need-conclude-requires
 conclude-requires c κs =
-    let spent-at = c .before .before .before .before .before .before .before .before .before .before .before .before in
+    let spent-at = c .before .before .before .before .before .before .before .before .before .before .before .before .before .before in
     let start = spent-at .before .before .before in
-    (c .before .by-id .ensures .signable, start .pre .1)
+    (c .before .by-id .ensures .dataFit, start .pre .1)
 
 same-length : tie.Need-same-length
 same-length c = search needs
@@ -146,7 +146,7 @@ returns-5 : tie.Need-returns-5
 returns-5 c =
     let conclude-at = c .before .before in
     let by-id-at = conclude-at .before .before in
-    let if4-at = by-id-at .before .before in
+    let if4-at = by-id-at .before .before .before .before in
     let key-there-at = if4-at .before in
     let head-of-at = key-there-at .before in
     let if3-at = head-of-at .before in
@@ -161,7 +161,7 @@ returns-5 c =
     (not-false (known .u .nonces .live) (if3-at .if3 .left))
     (key-there (known .u) (known .w .now) (known .reach) (granted (inside-at .inside .ensures) (if1-at .if1 .left)) (spent-at .spent .ensures) (head-of-at .head-of .ensures)
     (key-there-at .key-there .ensures) ∙ not-false _ (if4-at .if4 .left)))
-    (by-id-at .by-id .ensures) (conclude-at .conclude .ensures)
+    (by-id-at .by-id .ensures) (λ j p. conclude-at .conclude .ensures _ j refl p)
 
 pub write-spec : {M : Type 1} → statement M
 write-spec =

@@ -1,11 +1,12 @@
 -- `account::first_of` meets its contract: at every turn the keys from place `i` on decide.
-use Prim.Native.Nat.{ℕ, _≤_, _<_, _-_, _*_}
+use Prim.Native.Nat.{ℕ, _≤_, _<_, _-_}
 use mathlib.Core.Path.{_≡_, refl, sym, ap, _∙_}
 use mathlib.Core.List.{List}
 use native.Mathlib.Omega.{arith}
 use borrow.Author.Needs.{needs}
 use lib.ListN.{length, drop}
 use Rattle.sizes.specs.Sizes.{accountKeySize}
+use Rattle.primitives.specs.Standards.{keyedBy}
 use Rattle.tables.specs.Rows.{rows, firstThat}
 use Rattle.tables.proofs.Rows.{length-rows, length-row, first-next, first-here, first-end}
 use Rattle.wire.specs.Shape.{request}
@@ -28,8 +29,8 @@ loop-holds c = (omega arith, refl)
 row-requires : tie.Need-row-requires Inv-loop μ-loop
 row-requires c κs = (omega arith, c .before .before .before .before .pre .0)
 
-tagged-requires : tie.Need-tagged-requires Inv-loop μ-loop
-tagged-requires c κs =
+tried-requires : tie.Need-tried-requires Inv-loop μ-loop
+tried-requires c κs =
     let start = c .before .before .before .before .before in
     let turn = c .before .before .loop in
     let long = length-row accountKeySize (start .args .count) (start .args .keys .now) (turn .i) (omega arith) (start .pre .0) in
@@ -43,7 +44,9 @@ loop-less c = omega arith
 
 loop-again : tie.Need-loop-again Inv-loop μ-loop
 loop-again c =
-    let loop-at = c .before .before .before .before in
+    let tried-at = c .before in
+    let row-at = tried-at .before in
+    let loop-at = row-at .before .before in
     let known = loop-at .before .before .before .args in
     let turn = loop-at .loop in
     let l : List (List ℕ) = rows accountKeySize (known .count) (known .keys .now) in
@@ -51,8 +54,8 @@ loop-again c =
       omega arith,
       turn .inv .1
           ∙ first-next (λ (k : List ℕ). tagged k (known .nonce) (request (known .h) (known .additional .now))) l (turn .i) there
-          (ap (λ (k : List ℕ). tagged k (known .nonce) (request (known .h) (known .additional .now))) (sym (c .before .before .row .ensures))
-          ∙ sym (c .before .tagged .ensures) ∙ c .if2 .left),
+          (ap (λ (k : List ℕ). tagged k (known .nonce) (request (known .h) (known .additional .now))) (sym (row-at .row .ensures))
+          ∙ sym (tried-at .tried .ensures .1) ∙ c .if2 .left),
     )
 
 returns : tie.Need-returns Inv-loop μ-loop
@@ -61,26 +64,24 @@ returns c =
     let turn = c .before .loop in
     let l : List (List ℕ) = rows accountKeySize (known .count) (known .keys .now) in
     let none-left : length l ≤ turn .i = omega (arith, length-rows accountKeySize (known .count) (known .keys .now)) in
-    record {
-      rowIs = turn .inv .1 ∙ first-end (λ (k : List ℕ). tagged k (known .nonce) (request (known .h) (known .additional .now))) l (turn .i) none-left;
-      within = search needs;
-    }
+    let last = turn .inv .1 ∙ first-end (λ (k : List ℕ). tagged k (known .nonce) (request (known .h) (known .additional .now))) l (turn .i) none-left in
+    record { finds = record { rowIs = last; within = search needs }; readyFrom = search needs }
 
 returns-2 : tie.Need-returns-2 Inv-loop μ-loop
 returns-2 c =
-    let loop-at = c .before .before .before .before in
+    let tried-at = c .before .before in
+    let row-at = tried-at .before in
+    let loop-at = row-at .before .before in
     let known = loop-at .before .before .before .args in
     let turn = loop-at .loop in
     let l : List (List ℕ) = rows accountKeySize (known .count) (known .keys .now) in
     let there : turn .i < length l = omega (arith, length-rows accountKeySize (known .count) (known .keys .now)) in
-    record {
-      rowIs =
-          turn .inv .1
-          ∙ first-here (λ (k : List ℕ). tagged k (known .nonce) (request (known .h) (known .additional .now))) l (turn .i) there
-          (ap (λ (k : List ℕ). tagged k (known .nonce) (request (known .h) (known .additional .now))) (sym (c .before .before .row .ensures))
-          ∙ sym (c .before .tagged .ensures) ∙ c .if2 .taken);
-      within = there;
-    }
+    let here =
+    turn .inv .1
+    ∙ first-here (λ (k : List ℕ). tagged k (known .nonce) (request (known .h) (known .additional .now))) l (turn .i) there
+    (ap (λ (k : List ℕ). tagged k (known .nonce) (request (known .h) (known .additional .now))) (sym (row-at .row .ensures))
+    ∙ sym (tried-at .tried .ensures .1) ∙ c .before .if2 .taken) in
+    record { finds = record { rowIs = here; within = there }; readyFrom = tried-at .tried .ensures .0 ∙ ap keyedBy (row-at .row .ensures) }
 
 pub first-of-spec : {M : Type 1} → statement M
 first-of-spec =
@@ -90,7 +91,7 @@ first-of-spec =
     μ-loop
     loop-holds
     row-requires
-    tagged-requires
+    tried-requires
     add-i
     loop-less
     loop-again

@@ -8,6 +8,7 @@ use Rattle.unit.specs.WellFormed.{heldKeys}
 use Rattle.unit.proofs.Lines.{lines, accounts-legal}
 use Rattle.authentication.specs.Judgement.{tagged, lastNonce, signedByOwner}
 use Rattle.authentication.proofs.Finding.{found-row, found-below, found-none}
+use Rattle.primitives.specs.Standards.{keyedBy}
 use Rattle.wire.specs.Shape.{request}
 use borrow.Author.Needs.{needs}
 use Rattle.authentication.proofs.account.signed_by_owner.Statement.{statement}
@@ -25,7 +26,8 @@ enum-told c = search needs
 returns : tie.Need-returns
 unfolding signedByOwner
 returns c =
-    record { rowIs = rw (found-none (c .before .before .owner-place .ensures) (c .enum-told .given .1)); within = search needs }
+    let none-there = found-none (c .before .before .owner-place .ensures) (c .enum-told .given .1) in
+    record { finds = record { rowIs = rw none-there; within = search needs }; readyFrom = search needs }
 
 key-at-requires : tie.Need-key-at-requires
 key-at-requires c κs =
@@ -33,36 +35,40 @@ key-at-requires c κs =
     let u = start .args .u in
     (accounts-legal (u .accounts) (lines u (start .pre .0) .accounts), found-below (c .before .before .before .before .before .owner-place .ensures) (c .before .before .before .found .given .1))
 
-slice-aggregate-tagged : tie.Need-slice-aggregate-tagged
-slice-aggregate-tagged c = search needs
+slice-aggregate-tried : tie.Need-slice-aggregate-tried
+slice-aggregate-tried c = search needs
 
-tagged-requires : tie.Need-tagged-requires
-tagged-requires c κs = search needs
+tried-requires : tie.Need-tried-requires
+tried-requires c κs = search needs
 
 returns-2 : tie.Need-returns-2
 unfolding signedByOwner
 returns-2 c =
-    let key = c .before .before .before in
+    let tried-at = c .before .before in
+    let key = tried-at .before .before in
     let at = key .before .before .before .before in
     let start = at .before .before .before .before .before in
-    let made : tagged (getD (heldKeys (start .args .u .accounts)) (at .found .given .0 .0) []) (lastNonce (start .args .u)) (request (start .args .h) (start .args .additional .now)) ≡ true
+    let signs : tagged (getD (heldKeys (start .args .u .accounts)) (at .found .given .0 .0) []) (lastNonce (start .args .u)) (request (start .args .h) (start .args .additional .now)) ≡ true
     = ap (λ (k : List ℕ). tagged k (lastNonce (start .args .u)) (request (start .args .h) (start .args .additional .now))) (sym (key .key-at .ensures))
-    ∙ sym (c .before .tagged .ensures) ∙ c .if1 .taken in
+    ∙ sym (tried-at .tried .ensures .1) ∙ c .before .if1 .taken in
+    let place = at .before .before .owner-place .ensures in
     record {
-      rowIs = rw (found-row (at .before .before .owner-place .ensures) (at .found .given .1), made);
-      within = found-below (at .before .before .owner-place .ensures) (at .found .given .1);
+      finds = record { rowIs = rw (found-row place (at .found .given .1), signs); within = found-below place (at .found .given .1) };
+      readyFrom = tried-at .tried .ensures .0 ∙ ap keyedBy (key .key-at .ensures);
     }
 
 returns-3 : tie.Need-returns-3
 unfolding signedByOwner
 returns-3 c =
-    let key = c .before .before .before in
+    let tried-at = c .before in
+    let key = tried-at .before .before in
     let at = key .before .before .before .before in
     let start = at .before .before .before .before .before in
-    let made : tagged (getD (heldKeys (start .args .u .accounts)) (at .found .given .0 .0) []) (lastNonce (start .args .u)) (request (start .args .h) (start .args .additional .now)) ≡ false
+    let signs : tagged (getD (heldKeys (start .args .u .accounts)) (at .found .given .0 .0) []) (lastNonce (start .args .u)) (request (start .args .h) (start .args .additional .now)) ≡ false
     = ap (λ (k : List ℕ). tagged k (lastNonce (start .args .u)) (request (start .args .h) (start .args .additional .now))) (sym (key .key-at .ensures))
-    ∙ sym (c .before .tagged .ensures) ∙ c .if1 .left in
-    record { rowIs = rw (found-row (at .before .before .owner-place .ensures) (at .found .given .1), made); within = search needs }
+    ∙ sym (tried-at .tried .ensures .1) ∙ c .if1 .left in
+    let row = found-row (at .before .before .owner-place .ensures) (at .found .given .1) in
+    record { finds = record { rowIs = rw (row, signs); within = search needs }; readyFrom = search needs }
 
 pub signed-by-owner-spec : {M : Type 1} → statement M
 signed-by-owner-spec =
@@ -73,7 +79,7 @@ signed-by-owner-spec =
     enum-told
     returns
     key-at-requires
-    slice-aggregate-tagged
-    tagged-requires
+    slice-aggregate-tried
+    tried-requires
     returns-2
     returns-3)

@@ -1,5 +1,5 @@
 -- `answering::granted` meets its contract: the data are put in front of zeros.
-use mathlib.Core.Path.{_≡_, refl, ap, _∙_}
+use mathlib.Core.Path.{refl, ap, _∙_}
 use lib.ListN.{length, take}
 use lib.Seq.{take-at}
 use denote.Ref.{now}
@@ -19,7 +19,6 @@ returns c =
     record {
       unitIs = refl;
       rulingIs = refl;
-      keyIs = refl;
       dataAre = ap (take (length (now (start .args .«data»)))) (c .before .put .ensures) ∙ take-at (now (start .args .«data»)) _ _ refl;
       dataFit = start .pre;
     }

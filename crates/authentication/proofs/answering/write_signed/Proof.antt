@@ -1,43 +1,27 @@
--- `answering::write_signed` meets its contract: the key and the data are the first of the bytes kept.
+-- `answering::write_signed` meets its contract: the data are the first of the bytes kept.
 use mathlib.Core.Path.{_≡_, sym}
-use Prim.Native.Nat.{_≤_}
 use native.Mathlib.Omega.{arith}
 use lib.ListN.{length}
 use lib.Seq.{length-take-le}
 use borrow.Author.Needs.{needs}
-use Rattle.sizes.specs.Sizes.{accountKeySize, mostData}
+use Rattle.sizes.specs.Sizes.{mostData}
 use Rattle.authentication.proofs.answering.write_signed.Statement.{statement}
 use Rattle.authentication.proofs.answering.write_signed.Tie as tie
-
-array-share-prefix-key : tie.Need-array-share-prefix-key
-array-share-prefix-key c =
-    let start = c .before .before in
-    let long : length (start .args .k .bytes) ≡ accountKeySize = search needs in
-    omega (arith, start .pre .0)
-
-slice-aggregate-sign : tie.Need-slice-aggregate-sign
-slice-aggregate-sign c =
-    let start = c .before .before .before in
-    let long : length (start .args .k .bytes) ≡ accountKeySize = search needs in
-    sym (length-take-le (start .args .k .size) (start .args .k .bytes) (omega (arith, start .pre .0)))
 
 array-share-prefix-payload : tie.Need-array-share-prefix-payload
 array-share-prefix-payload c = search needs
 
-slice-aggregate-sign-2 : tie.Need-slice-aggregate-sign-2
-slice-aggregate-sign-2 c =
-    let start = c .before .before .before .before in
+slice-aggregate-sign : tie.Need-slice-aggregate-sign
+slice-aggregate-sign c =
+    let start = c .before .before in
     let long : length (start .args .t5) ≡ mostData = search needs in
-    sym (length-take-le (start .args .size) (start .args .t5) (omega (arith, start .pre .1 .0)))
+    sym (length-take-le (start .args .size) (start .args .t5) (omega (arith, start .pre .0)))
 
 sign-requires : tie.Need-sign-requires
 sign-requires c κs =
-    let start = c .before .before .before .before .before in
-    let keyed : length (start .args .k .bytes) ≡ accountKeySize = search needs in
-    let long : length (start .args .t5) ≡ mostData = search needs in (
-      omega (arith, length-take-le (start .args .k .size) (start .args .k .bytes) (omega (arith, start .pre .0)), start .pre .0),
-      (omega (arith, length-take-le (start .args .size) (start .args .t5) (omega (arith, start .pre .1 .0)), start .pre .1 .0), start .pre .1 .1),
-    )
+    let start = c .before .before .before in
+    let long : length (start .args .t5) ≡ mostData = search needs in
+    (omega (arith, length-take-le (start .args .size) (start .args .t5) (omega (arith, start .pre .0)), start .pre .0), start .pre .1)
 
 same-length : tie.Need-same-length
 same-length c = search needs
@@ -48,11 +32,4 @@ returns c = search needs
 pub write-signed-spec : {M : Type 1} → statement M
 write-signed-spec =
     tie.close
-    (tie.spec
-    array-share-prefix-key
-    slice-aggregate-sign
-    array-share-prefix-payload
-    slice-aggregate-sign-2
-    sign-requires
-    same-length
-    returns)
+    (tie.spec array-share-prefix-payload slice-aggregate-sign sign-requires same-length returns)

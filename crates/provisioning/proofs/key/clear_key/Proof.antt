@@ -1,5 +1,5 @@
 -- `key::clear_key` meets its contract, an end each.
-use Rattle.authentication.proofs.Finding.{found-row, found-below, found-none}
+use Rattle.authentication.proofs.Finding.{signer-row, signer-key, signer-none}
 use Rattle.authentication.proofs.Judged.{denial, grant}
 use Rattle.laws.proofs.Flags.{granted, refuted}
 use Rattle.unit.proofs.Lines.{lines, accounts-legal}
@@ -31,7 +31,7 @@ returns c =
     let signed-by-owner-at = enum-told-at .before .before in
     let start = signed-by-owner-at .before .before in
     denial (start .args .u) (start .args .h .id) (c .denied .ensures)
-    (clear-nowhere (start .args .u) (request (start .args .h) (start .args .additional .now)) (found-none (signed-by-owner-at .signed-by-owner .ensures) (enum-told-at .enum-told .given .1)))
+    (clear-nowhere (start .args .u) (request (start .args .h) (start .args .additional .now)) (signer-none (signed-by-owner-at .signed-by-owner .ensures) (enum-told-at .enum-told .given .1)))
 
 proves-requires : tie.Need-proves-requires
 proves-requires c κs = search needs
@@ -47,18 +47,8 @@ returns-2 c =
     let signed-by-owner-at = found-at .before .before in
     let start = signed-by-owner-at .before .before in
     denial (start .args .u) (start .args .h .id) (c .denied2 .ensures)
-    (clear-unproved (start .args .u) (request (start .args .h) (start .args .additional .now)) (found-row (signed-by-owner-at .signed-by-owner .ensures) (found-at .found .given .1))
+    (clear-unproved (start .args .u) (request (start .args .h) (start .args .additional .now)) (signer-row (signed-by-owner-at .signed-by-owner .ensures) (found-at .found .given .1))
     (refuted (proves-at .proves .ensures) (if1-at .if1 .taken)))
-
-key-at-requires : tie.Need-key-at-requires
-key-at-requires c κs =
-    let found-at = c .before .before .before .before in
-    let signed-by-owner-at = found-at .before .before in
-    let start = signed-by-owner-at .before .before in
-    (accounts-legal (start .args .u .accounts) (lines (start .args .u) (start .pre .formed) .accounts), found-below (signed-by-owner-at .signed-by-owner .ensures) (found-at .found .given .1))
-
-signing-key-requires : tie.Need-signing-key-requires
-signing-key-requires c κs = search needs
 
 cleared-requires : tie.Need-cleared-requires
 cleared-requires c κs = search needs
@@ -72,15 +62,13 @@ granted-requires c κs = search needs
 returns-3 : tie.Need-returns-3
 returns-3 c =
     let cleared-at = c .before .before in
-    let signing-key-at = cleared-at .before in
-    let key-at-at = signing-key-at .before in
-    let if1-at = key-at-at .before .before in
+    let if1-at = cleared-at .before in
     let proves-at = if1-at .before in
     let found-at = proves-at .before .before in
     let signed-by-owner-at = found-at .before .before in
     let start = signed-by-owner-at .before .before in
-    grant (start .args .u) (start .args .h .id) (signing-key-at .signing-key .ensures) (c .granted .ensures)
-    (key-cleared (start .args .u) (request (start .args .h) (start .args .additional .now)) (found-row (signed-by-owner-at .signed-by-owner .ensures) (found-at .found .given .1)) (key-at-at .key-at .ensures)
+    grant (start .args .u) (start .args .h .id) _ (signer-key (signed-by-owner-at .signed-by-owner .ensures) (found-at .found .given .1)) (c .granted .ensures)
+    (key-cleared (start .args .u) (request (start .args .h) (start .args .additional .now)) (signer-row (signed-by-owner-at .signed-by-owner .ensures) (found-at .found .given .1))
     (granted (proves-at .proves .ensures) (if1-at .if1 .left)) (cleared-at .cleared .ensures))
 
 pub clear-key-spec : {M : Type 1} → statement M
@@ -95,8 +83,6 @@ clear-key-spec =
     proves-requires
     denied-requires-2
     returns-2
-    key-at-requires
-    signing-key-requires
     cleared-requires
     slice-aggregate-granted
     granted-requires

@@ -4,12 +4,8 @@ use Rattle.authentication.proofs.Judged.{denial, grant}
 use Rattle.laws.proofs.Flags.{granted, refuted}
 use Rattle.unit.proofs.Lines.{lines, accounts-legal}
 use Rattle.wire.specs.Shape.{request}
-use mathlib.Core.Path.{_≡_, refl, sym, ap, _∙_}
 use native.Mathlib.Omega.{arith}
 use Rattle.provisioning.proofs.Judging.{recover-nowhere, recover-unsigned, recover-unasked, key-recovered}
-use Rattle.authentication.specs.Judgement.{tagged}
-use mathlib.Core.List.{List}
-use Prim.Native.Nat.{ℕ}
 use borrow.Author.Needs.{needs}
 use Rattle.provisioning.proofs.key.recover_key.Statement.{statement}
 use Rattle.provisioning.proofs.key.recover_key.Tie as tie
@@ -43,7 +39,7 @@ tagged-requires : tie.Need-tagged-requires
 tagged-requires c κs =
     let derived-key-at = c .before .before in
     let start = derived-key-at .before .before .before .before .before .before .before in
-    (derived-key-at .derived-key .ensures .fits, omega (arith, start .good .1 .0, start .pre .sized))
+    omega (arith, start .good .1 .0, start .pre .sized)
 
 consents-requires : tie.Need-consents-requires
 consents-requires c κs = search needs
@@ -61,8 +57,7 @@ returns-2 c =
     let start = owner-place-at .before .before .before in
     denial (start .args .u) (start .args .h .id) (c .denied2 .ensures)
     (recover-unsigned (start .args .u) (request (start .args .h) (start .args .additional .now)) (found-row (owner-place-at .owner-place .ensures) (found-at .found .given .1))
-    (ap (λ (k : List ℕ). tagged k (start .args .u .nonces .newest) (request (start .args .h) (start .args .additional .now))) (sym (derived-key-at .derived-key .ensures .keyIs))
-    ∙ refuted (tagged-at .tagged .ensures) (if1-at .if1 .taken)))
+    (refuted (tagged-at .tagged .ensures _ (derived-key-at .derived-key .ensures)) (if1-at .if1 .taken)))
 
 denied-requires-3 : tie.Need-denied-requires-3
 denied-requires-3 c κs = search needs
@@ -79,8 +74,7 @@ returns-3 c =
     let start = owner-place-at .before .before .before in
     denial (start .args .u) (start .args .h .id) (c .denied3 .ensures)
     (recover-unasked (start .args .u) (request (start .args .h) (start .args .additional .now)) (found-row (owner-place-at .owner-place .ensures) (found-at .found .given .1))
-    (ap (λ (k : List ℕ). tagged k (start .args .u .nonces .newest) (request (start .args .h) (start .args .additional .now))) (sym (derived-key-at .derived-key .ensures .keyIs))
-    ∙ granted (tagged-at .tagged .ensures) (if1-at .if1 .left))
+    (granted (tagged-at .tagged .ensures _ (derived-key-at .derived-key .ensures)) (if1-at .if1 .left))
     (refuted (consents-at .consents .ensures) (if2-at .if2 .taken)))
 
 key-at-requires : tie.Need-key-at-requires
@@ -111,10 +105,9 @@ returns-4 c =
     let found-at = derived-key-at .before .before in
     let owner-place-at = found-at .before .before in
     let start = owner-place-at .before .before .before in
-    grant (start .args .u) (start .args .h .id) (derived-key-at .derived-key .ensures) (c .granted .ensures)
+    grant (start .args .u) (start .args .h .id) _ (derived-key-at .derived-key .ensures) (c .granted .ensures)
     (key-recovered (start .args .u) (request (start .args .h) (start .args .additional .now)) (found-row (owner-place-at .owner-place .ensures) (found-at .found .given .1))
-    (ap (λ (k : List ℕ). tagged k (start .args .u .nonces .newest) (request (start .args .h) (start .args .additional .now))) (sym (derived-key-at .derived-key .ensures .keyIs))
-    ∙ granted (tagged-at .tagged .ensures) (if1-at .if1 .left))
+    (granted (tagged-at .tagged .ensures _ (derived-key-at .derived-key .ensures)) (if1-at .if1 .left))
     (granted (consents-at .consents .ensures) (if2-at .if2 .left)) (key-at-at .key-at .ensures) (encrypted-key-at .encrypted-key .ensures))
 
 pub recover-key-spec : {M : Type 1} → statement M

@@ -1,5 +1,5 @@
 -- `key::set_key` meets its contract, an end each.
-use Rattle.authentication.proofs.Finding.{found-row, found-below, found-none}
+use Rattle.authentication.proofs.Finding.{signer-row, signer-below, signer-key, signer-none}
 use Rattle.authentication.proofs.Judged.{denial, grant}
 use Rattle.laws.proofs.Flags.{granted, refuted}
 use Rattle.unit.proofs.Lines.{lines, accounts-legal}
@@ -31,7 +31,7 @@ returns c =
     let signed-by-owner-at = enum-told-at .before .before in
     let start = signed-by-owner-at .before .before in
     denial (start .args .u) (start .args .h .id) (c .denied .ensures)
-    (set-nowhere (start .args .u) (request (start .args .h) (start .args .additional .now)) (found-none (signed-by-owner-at .signed-by-owner .ensures) (enum-told-at .enum-told .given .1)))
+    (set-nowhere (start .args .u) (request (start .args .h) (start .args .additional .now)) (signer-none (signed-by-owner-at .signed-by-owner .ensures) (enum-told-at .enum-told .given .1)))
 
 may-replace-requires : tie.Need-may-replace-requires
 may-replace-requires c κs = search needs
@@ -47,7 +47,7 @@ returns-2 c =
     let signed-by-owner-at = found-at .before .before in
     let start = signed-by-owner-at .before .before in
     denial (start .args .u) (start .args .h .id) (c .denied2 .ensures)
-    (set-unproved (start .args .u) (request (start .args .h) (start .args .additional .now)) (found-row (signed-by-owner-at .signed-by-owner .ensures) (found-at .found .given .1))
+    (set-unproved (start .args .u) (request (start .args .h) (start .args .additional .now)) (signer-row (signed-by-owner-at .signed-by-owner .ensures) (found-at .found .given .1))
     (refuted (may-replace-at .may-replace .ensures) (if1-at .if1 .taken)))
 
 key-at-requires : tie.Need-key-at-requires
@@ -55,7 +55,7 @@ key-at-requires c κs =
     let found-at = c .before .before .before .before in
     let signed-by-owner-at = found-at .before .before in
     let start = signed-by-owner-at .before .before in
-    (accounts-legal (start .args .u .accounts) (lines (start .args .u) (start .pre .0 .formed) .accounts), found-below (signed-by-owner-at .signed-by-owner .ensures) (found-at .found .given .1))
+    (accounts-legal (start .args .u .accounts) (lines (start .args .u) (start .pre .0 .formed) .accounts), signer-below (signed-by-owner-at .signed-by-owner .ensures) (found-at .found .given .1))
 
 decrypted-key-requires : tie.Need-decrypted-key-requires
 decrypted-key-requires c κs = search needs
@@ -69,10 +69,7 @@ used-requires c κs =
     let found-at = key-at-at .before .before .before .before .before in
     let signed-by-owner-at = found-at .before .before in
     let start = signed-by-owner-at .before .before in
-    (accounts-legal (start .args .u .accounts) (lines (start .args .u) (start .pre .0 .formed) .accounts), found-below (signed-by-owner-at .signed-by-owner .ensures) (found-at .found .given .1))
-
-signing-key-requires : tie.Need-signing-key-requires
-signing-key-requires c κs = search needs
+    (accounts-legal (start .args .u .accounts) (lines (start .args .u) (start .pre .0 .formed) .accounts), signer-below (signed-by-owner-at .signed-by-owner .ensures) (found-at .found .given .1))
 
 slice-aggregate-granted : tie.Need-slice-aggregate-granted
 slice-aggregate-granted c = search needs
@@ -82,8 +79,7 @@ granted-requires c κs = search needs
 
 returns-3 : tie.Need-returns-3
 returns-3 c =
-    let signing-key-at = c .before .before in
-    let used-at = signing-key-at .before in
+    let used-at = c .before .before in
     let awaiting-at = used-at .before in
     let decrypted-key-at = awaiting-at .before in
     let key-at-at = decrypted-key-at .before in
@@ -92,8 +88,8 @@ returns-3 c =
     let found-at = may-replace-at .before .before in
     let signed-by-owner-at = found-at .before .before in
     let start = signed-by-owner-at .before .before in
-    grant (start .args .u) (start .args .h .id) (signing-key-at .signing-key .ensures) (c .granted .ensures)
-    (key-set (start .args .u) (request (start .args .h) (start .args .additional .now)) (found-row (signed-by-owner-at .signed-by-owner .ensures) (found-at .found .given .1)) (key-at-at .key-at .ensures)
+    grant (start .args .u) (start .args .h .id) _ (signer-key (signed-by-owner-at .signed-by-owner .ensures) (found-at .found .given .1)) (c .granted .ensures)
+    (key-set (start .args .u) (request (start .args .h) (start .args .additional .now)) (signer-row (signed-by-owner-at .signed-by-owner .ensures) (found-at .found .given .1)) (key-at-at .key-at .ensures)
     (granted (may-replace-at .may-replace .ensures) (if1-at .if1 .left)) (decrypted-key-at .decrypted-key .ensures) (awaiting-at .awaiting .ensures) (used-at .used .ensures))
 
 pub set-key-spec : {M : Type 1} → statement M
@@ -112,7 +108,6 @@ set-key-spec =
     decrypted-key-requires
     awaiting-requires
     used-requires
-    signing-key-requires
     slice-aggregate-granted
     granted-requires
     returns-3)

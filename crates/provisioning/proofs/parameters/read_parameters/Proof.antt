@@ -1,5 +1,5 @@
 -- `parameters::read_parameters` meets its contract, an end each.
-use Rattle.authentication.proofs.Finding.{found-row, found-below, found-none}
+use Rattle.authentication.proofs.Finding.{signer-row, signer-below, signer-key, signer-none}
 use Rattle.authentication.proofs.Judged.{denial, grant}
 use Rattle.laws.proofs.Flags.{granted, refuted}
 use Rattle.unit.proofs.Lines.{lines, accounts-legal}
@@ -31,14 +31,14 @@ returns c =
     let used-key-at = enum-told-at .before .before in
     let start = used-key-at .before .before in
     denial (start .args .u) (start .args .h .id) (c .denied .ensures)
-    (parameters-nowhere (start .args .u) (request (start .args .h) (start .args .additional .now)) (found-none (used-key-at .used-key .ensures) (enum-told-at .enum-told .given .1)))
+    (parameters-nowhere (start .args .u) (request (start .args .h) (start .args .additional .now)) (signer-none (used-key-at .used-key .ensures) (enum-told-at .enum-told .given .1)))
 
 key-at-requires : tie.Need-key-at-requires
 key-at-requires c κs =
     let found-at = c .before .before in
     let used-key-at = found-at .before .before in
     let start = used-key-at .before .before in
-    (accounts-legal (start .args .u .accounts) (lines (start .args .u) (start .pre .formed) .accounts), found-below (used-key-at .used-key .ensures) (found-at .found .given .1))
+    (accounts-legal (start .args .u .accounts) (lines (start .args .u) (start .pre .formed) .accounts), signer-below (used-key-at .used-key .ensures) (found-at .found .given .1))
 
 plain-requires : tie.Need-plain-requires
 plain-requires c κs =
@@ -54,10 +54,7 @@ used-requires c κs =
     let found-at = key-at-at .before .before .before in
     let used-key-at = found-at .before .before in
     let start = used-key-at .before .before in
-    (accounts-legal (start .args .u .accounts) (lines (start .args .u) (start .pre .formed) .accounts), found-below (used-key-at .used-key .ensures) (found-at .found .given .1))
-
-signing-key-requires : tie.Need-signing-key-requires
-signing-key-requires c κs = search needs
+    (accounts-legal (start .args .u .accounts) (lines (start .args .u) (start .pre .formed) .accounts), signer-below (used-key-at .used-key .ensures) (found-at .found .given .1))
 
 slice-aggregate-granted : tie.Need-slice-aggregate-granted
 slice-aggregate-granted c = search needs
@@ -67,16 +64,15 @@ granted-requires c κs = search needs
 
 returns-2 : tie.Need-returns-2
 returns-2 c =
-    let signing-key-at = c .before .before in
-    let used-at = signing-key-at .before in
+    let used-at = c .before .before in
     let encrypt-at = used-at .before in
     let plain-at = encrypt-at .before in
     let key-at-at = plain-at .before .before in
     let found-at = key-at-at .before .before .before in
     let used-key-at = found-at .before .before in
     let start = used-key-at .before .before in
-    grant (start .args .u) (start .args .h .id) (signing-key-at .signing-key .ensures) (c .granted .ensures)
-    (parameters-read (start .args .u) (request (start .args .h) (start .args .additional .now)) (found-row (used-key-at .used-key .ensures) (found-at .found .given .1)) (key-at-at .key-at .ensures)
+    grant (start .args .u) (start .args .h .id) _ (signer-key (used-key-at .used-key .ensures) (found-at .found .given .1)) (c .granted .ensures)
+    (parameters-read (start .args .u) (request (start .args .h) (start .args .additional .now)) (signer-row (used-key-at .used-key .ensures) (found-at .found .given .1)) (key-at-at .key-at .ensures)
     (plain-at .plain .ensures) (encrypt-at .encrypt .ensures) (used-at .used .ensures))
 
 pub read-parameters-spec : {M : Type 1} → statement M
@@ -92,7 +88,6 @@ read-parameters-spec =
     plain-requires
     encrypt-requires
     used-requires
-    signing-key-requires
     slice-aggregate-granted
     granted-requires
     returns-2)

@@ -1,5 +1,5 @@
 -- `state::read_state` meets its contract, an end each.
-use Rattle.authentication.proofs.Finding.{found-row, found-below, found-none}
+use Rattle.authentication.proofs.Finding.{signer-row, signer-below, signer-key, signer-none}
 use Rattle.authentication.proofs.Judged.{denial, grant}
 use Rattle.laws.proofs.Flags.{granted, refuted}
 use Rattle.unit.proofs.Lines.{lines, accounts-legal}
@@ -36,33 +36,23 @@ returns c =
     let used-key-at = enum-told-at .before .before in
     let start = used-key-at .before .before in
     denial (start .args .u) (start .args .h .id) (c .denied .ensures)
-    (state-nowhere (start .args .u) (request (start .args .h) (start .args .additional .now)) (found-none (used-key-at .used-key .ensures) (enum-told-at .enum-told .given .1)))
-
-key-at-requires : tie.Need-key-at-requires
-key-at-requires c κs =
-    let found-at = c .before .before in
-    let used-key-at = found-at .before .before in
-    let start = used-key-at .before .before in
-    (accounts-legal (start .args .u .accounts) (lines (start .args .u) (start .pre .formed) .accounts), found-below (used-key-at .used-key .ensures) (found-at .found .given .1))
-
-signing-key-requires : tie.Need-signing-key-requires
-signing-key-requires c κs = search needs
+    (state-nowhere (start .args .u) (request (start .args .h) (start .args .additional .now)) (signer-none (used-key-at .used-key .ensures) (enum-told-at .enum-told .given .1)))
 
 owned-by-requires : tie.Need-owned-by-requires
 owned-by-requires c κs =
-    let found-at = c .before .before .before .before in
+    let found-at = c .before .before in
     let used-key-at = found-at .before .before in
     let start = used-key-at .before .before in
-    (accounts-legal (start .args .u .accounts) (lines (start .args .u) (start .pre .formed) .accounts), found-below (used-key-at .used-key .ensures) (found-at .found .given .1))
+    (accounts-legal (start .args .u .accounts) (lines (start .args .u) (start .pre .formed) .accounts), signer-below (used-key-at .used-key .ensures) (found-at .found .given .1))
 
 owns-requires : tie.Need-owns-requires
 owns-requires c κs =
     let owned-by-at = c in
-    let found-at = owned-by-at .before .before .before .before .before in
+    let found-at = owned-by-at .before .before .before in
     let used-key-at = found-at .before .before in
     let start = used-key-at .before .before in
     owned-ready (start .args .u .accounts) (found-at .found .given .0 .0) (owned-by-at .owned-by .ensures)
-    (accounts-legal (start .args .u .accounts) (lines (start .args .u) (start .pre .formed) .accounts)) (found-below (used-key-at .used-key .ensures) (found-at .found .given .1)) (lines (start .args .u) (start .pre .formed) .owner)
+    (accounts-legal (start .args .u .accounts) (lines (start .args .u) (start .pre .formed) .accounts)) (signer-below (used-key-at .used-key .ensures) (found-at .found .given .1)) (lines (start .args .u) (start .pre .formed) .owner)
 
 state-bits-requires : tie.Need-state-bits-requires
 state-bits-requires c κs = search needs
@@ -70,11 +60,11 @@ state-bits-requires c κs = search needs
 used-requires : tie.Need-used-requires
 used-requires c κs =
     let owned-by-at = c .before .before in
-    let found-at = owned-by-at .before .before .before .before .before in
+    let found-at = owned-by-at .before .before .before in
     let used-key-at = found-at .before .before in
     let start = used-key-at .before .before in
     let ready = owned-ready (start .args .u .accounts) (found-at .found .given .0 .0) (owned-by-at .owned-by .ensures)
-    (accounts-legal (start .args .u .accounts) (lines (start .args .u) (start .pre .formed) .accounts)) (found-below (used-key-at .used-key .ensures) (found-at .found .given .1)) (lines (start .args .u) (start .pre .formed) .owner) in
+    (accounts-legal (start .args .u .accounts) (lines (start .args .u) (start .pre .formed) .accounts)) (signer-below (used-key-at .used-key .ensures) (found-at .found .given .1)) (lines (start .args .u) (start .pre .formed) .owner) in
     (ready .0 .0, ready .1)
 
 current-requires : tie.Need-current-requires
@@ -98,14 +88,12 @@ returns-2 c =
     let state-bits-at = used-at .before in
     let owns-at = state-bits-at .before in
     let owned-by-at = owns-at .before in
-    let signing-key-at = owned-by-at .before in
-    let key-at-at = signing-key-at .before in
-    let found-at = key-at-at .before .before .before in
+    let found-at = owned-by-at .before .before .before in
     let used-key-at = found-at .before .before in
     let start = used-key-at .before .before in
-    grant (start .args .u) (start .args .h .id) (signing-key-at .signing-key .ensures) (c .granted .ensures)
+    grant (start .args .u) (start .args .h .id) _ (signer-key (used-key-at .used-key .ensures) (found-at .found .given .1)) (c .granted .ensures)
     (rw (state-of-at .state-of .ensures)
-    (state-read (start .args .u) (request (start .args .h) (start .args .additional .now)) (found-at .found .given .0 .0) (found-row (used-key-at .used-key .ensures) (found-at .found .given .1)) (key-at-at .key-at .ensures)
+    (state-read (start .args .u) (request (start .args .h) (start .args .additional .now)) (found-at .found .given .0 .0) (signer-row (used-key-at .used-key .ensures) (found-at .found .given .1))
     (owned-by-at .owned-by .ensures) (owns-at .owns .ensures) (state-bits-at .state-bits .ensures) (shown-all (start .args .u) (current-at .current .ensures) (if1-at .if1 .taken)) (used-at .used .ensures)))
 
 slice-aggregate-granted-2 : tie.Need-slice-aggregate-granted-2
@@ -122,13 +110,11 @@ returns-3 c =
     let state-bits-at = used-at .before in
     let owns-at = state-bits-at .before in
     let owned-by-at = owns-at .before in
-    let signing-key-at = owned-by-at .before in
-    let key-at-at = signing-key-at .before in
-    let found-at = key-at-at .before .before .before in
+    let found-at = owned-by-at .before .before .before in
     let used-key-at = found-at .before .before in
     let start = used-key-at .before .before in
-    grant (start .args .u) (start .args .h .id) (signing-key-at .signing-key .ensures) (c .granted2 .ensures)
-    (state-read (start .args .u) (request (start .args .h) (start .args .additional .now)) (found-at .found .given .0 .0) (found-row (used-key-at .used-key .ensures) (found-at .found .given .1)) (key-at-at .key-at .ensures)
+    grant (start .args .u) (start .args .h .id) _ (signer-key (used-key-at .used-key .ensures) (found-at .found .given .1)) (c .granted2 .ensures)
+    (state-read (start .args .u) (request (start .args .h) (start .args .additional .now)) (found-at .found .given .0 .0) (signer-row (used-key-at .used-key .ensures) (found-at .found .given .1))
     (owned-by-at .owned-by .ensures) (owns-at .owns .ensures) (state-bits-at .state-bits .ensures) (shown-none (start .args .u) (current-at .current .ensures) (if1-at .if1 .left)) (used-at .used .ensures))
 
 pub read-state-spec : {M : Type 1} → statement M
@@ -140,8 +126,6 @@ read-state-spec =
     enum-told
     denied-requires
     returns
-    key-at-requires
-    signing-key-requires
     owned-by-requires
     owns-requires
     state-bits-requires

@@ -1,13 +1,8 @@
 -- `protecting::unprotect` meets its contract, an end each.
 use Rattle.authentication.proofs.Judged.{denial, grant}
-use Rattle.authentication.specs.Judgement.{tagged, lastNonce}
 use Rattle.laws.proofs.Flags.{granted, refuted}
-use Rattle.unit.proofs.Lines.{lines}
 use Rattle.wire.specs.Shape.{request}
-use mathlib.Core.Path.{_≡_, refl, sym, ap, _∙_}
-use mathlib.Core.List.{List}
 use native.Mathlib.Omega.{arith}
-use Prim.Native.Nat.{ℕ}
 use Rattle.ringing.proofs.Protects.{unprotect-untagged, unprotect-unproved, unprotect-off}
 use borrow.Author.Needs.{needs}
 use Rattle.ringing.proofs.protecting.unprotect.Statement.{statement}
@@ -20,7 +15,7 @@ tagged-requires : tie.Need-tagged-requires
 tagged-requires c κs =
     let derived-key-at = c .before .before in
     let start = derived-key-at .before .before in
-    (derived-key-at .derived-key .ensures .fits, omega (arith, start .good .1 .0, start .pre .sized))
+    omega (arith, start .good .1 .0, start .pre .sized)
 
 denied-requires : tie.Need-denied-requires
 denied-requires c κs = search needs
@@ -32,7 +27,7 @@ returns c =
     let derived-key-at = tagged-at .before .before .before in
     let start = derived-key-at .before .before in
     denial (start .args .u) (start .args .h .id) (c .denied .ensures)
-    (unprotect-untagged (start .args .u) (request (start .args .h) (start .args .additional .now)) (ap (λ (k : List ℕ). tagged k (start .args .u .nonces .newest) (request (start .args .h) (start .args .additional .now))) (sym (derived-key-at .derived-key .ensures .keyIs)) ∙ refuted (tagged-at .tagged .ensures) (if1-at .if1 .taken)))
+    (unprotect-untagged (start .args .u) (request (start .args .h) (start .args .additional .now)) (refuted (tagged-at .tagged .ensures _ (derived-key-at .derived-key .ensures)) (if1-at .if1 .taken)))
 
 proves-requires : tie.Need-proves-requires
 proves-requires c κs = search needs
@@ -49,7 +44,7 @@ returns-2 c =
     let derived-key-at = tagged-at .before .before .before in
     let start = derived-key-at .before .before in
     denial (start .args .u) (start .args .h .id) (c .denied2 .ensures)
-    (unprotect-unproved (start .args .u) (request (start .args .h) (start .args .additional .now)) (ap (λ (k : List ℕ). tagged k (start .args .u .nonces .newest) (request (start .args .h) (start .args .additional .now))) (sym (derived-key-at .derived-key .ensures .keyIs)) ∙ granted (tagged-at .tagged .ensures) (if1-at .if1 .left)) (refuted (proves-at .proves .ensures) (if2-at .if2 .taken)))
+    (unprotect-unproved (start .args .u) (request (start .args .h) (start .args .additional .now)) (granted (tagged-at .tagged .ensures _ (derived-key-at .derived-key .ensures)) (if1-at .if1 .left)) (refuted (proves-at .proves .ensures) (if2-at .if2 .taken)))
 
 with-protection-requires : tie.Need-with-protection-requires
 with-protection-requires c κs = search needs
@@ -69,8 +64,8 @@ returns-3 c =
     let tagged-at = if1-at .before in
     let derived-key-at = tagged-at .before .before .before in
     let start = derived-key-at .before .before in
-    grant (start .args .u) (start .args .h .id) (derived-key-at .derived-key .ensures) (c .granted .ensures)
-    (unprotect-off (start .args .u) (request (start .args .h) (start .args .additional .now)) (ap (λ (k : List ℕ). tagged k (start .args .u .nonces .newest) (request (start .args .h) (start .args .additional .now))) (sym (derived-key-at .derived-key .ensures .keyIs)) ∙ granted (tagged-at .tagged .ensures) (if1-at .if1 .left)) (granted (proves-at .proves .ensures) (if2-at .if2 .left)) (with-protection-at .with-protection .ensures))
+    grant (start .args .u) (start .args .h .id) _ (derived-key-at .derived-key .ensures) (c .granted .ensures)
+    (unprotect-off (start .args .u) (request (start .args .h) (start .args .additional .now)) (granted (tagged-at .tagged .ensures _ (derived-key-at .derived-key .ensures)) (if1-at .if1 .left)) (granted (proves-at .proves .ensures) (if2-at .if2 .left)) (with-protection-at .with-protection .ensures))
 
 pub unprotect-spec : {M : Type 1} → statement M
 unprotect-spec =

@@ -21,7 +21,7 @@ returns-2 c =
     let tagged-at = c in
     let if1-at = tagged-at .before .before .before in
     let skips-at = if1-at .before in
-    rw (sym (skips-at .skips .ensures) ∙ if1-at .if1 .left) (tagged-at .tagged .ensures)
+    rw (sym (skips-at .skips .ensures) ∙ if1-at .if1 .left) (tagged-at .tagged .ensures _ (skips-at .before .before .pre .0))
 
 pub let-through-spec : {M : Type 1} → statement M
 let-through-spec = tie.close (tie.spec skips-requires returns tagged-requires returns-2)

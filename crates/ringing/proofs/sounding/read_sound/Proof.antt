@@ -1,13 +1,8 @@
 -- `sounding::read_sound` meets its contract, an end each.
 use Rattle.authentication.proofs.Judged.{denial, grant}
-use Rattle.authentication.specs.Judgement.{tagged, lastNonce}
 use Rattle.laws.proofs.Flags.{granted, refuted}
-use Rattle.unit.proofs.Lines.{lines}
 use Rattle.wire.specs.Shape.{request}
-use mathlib.Core.Path.{_≡_, refl, sym, ap, _∙_}
-use mathlib.Core.List.{List}
 use native.Mathlib.Omega.{arith}
-use Prim.Native.Nat.{ℕ}
 use Rattle.ringing.proofs.Rings.{sound-untagged, sound-read}
 use borrow.Author.Needs.{needs}
 use Rattle.ringing.proofs.sounding.read_sound.Statement.{statement}
@@ -20,7 +15,7 @@ tagged-requires : tie.Need-tagged-requires
 tagged-requires c κs =
     let derived-key-at = c .before .before in
     let start = derived-key-at .before .before in
-    (derived-key-at .derived-key .ensures .fits, omega (arith, start .good .1 .0, start .pre .sized))
+    omega (arith, start .good .1 .0, start .pre .sized)
 
 denied-requires : tie.Need-denied-requires
 denied-requires c κs = search needs
@@ -32,7 +27,7 @@ returns c =
     let derived-key-at = tagged-at .before .before .before in
     let start = derived-key-at .before .before in
     denial (start .args .u) (start .args .h .id) (c .denied .ensures)
-    (sound-untagged (start .args .u) (request (start .args .h) (start .args .additional .now)) (ap (λ (k : List ℕ). tagged k (start .args .u .nonces .newest) (request (start .args .h) (start .args .additional .now))) (sym (derived-key-at .derived-key .ensures .keyIs)) ∙ refuted (tagged-at .tagged .ensures) (if1-at .if1 .taken)))
+    (sound-untagged (start .args .u) (request (start .args .h) (start .args .additional .now)) (refuted (tagged-at .tagged .ensures _ (derived-key-at .derived-key .ensures)) (if1-at .if1 .taken)))
 
 sound-state-requires : tie.Need-sound-state-requires
 sound-state-requires c κs = search needs
@@ -50,8 +45,8 @@ returns-2 c =
     let tagged-at = if1-at .before in
     let derived-key-at = tagged-at .before .before .before in
     let start = derived-key-at .before .before in
-    grant (start .args .u) (start .args .h .id) (derived-key-at .derived-key .ensures) (c .granted .ensures)
-    (sound-read (start .args .u) (request (start .args .h) (start .args .additional .now)) (ap (λ (k : List ℕ). tagged k (start .args .u .nonces .newest) (request (start .args .h) (start .args .additional .now))) (sym (derived-key-at .derived-key .ensures .keyIs)) ∙ granted (tagged-at .tagged .ensures) (if1-at .if1 .left)) (sound-state-at .sound-state .ensures))
+    grant (start .args .u) (start .args .h .id) _ (derived-key-at .derived-key .ensures) (c .granted .ensures)
+    (sound-read (start .args .u) (request (start .args .h) (start .args .additional .now)) (granted (tagged-at .tagged .ensures _ (derived-key-at .derived-key .ensures)) (if1-at .if1 .left)) (sound-state-at .sound-state .ensures))
 
 pub read-sound-spec : {M : Type 1} → statement M
 read-sound-spec =

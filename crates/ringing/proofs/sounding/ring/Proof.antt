@@ -1,17 +1,11 @@
 -- `sounding::ring` meets its contract, an end each.
-use Rattle.authentication.proofs.Judged.{denial, grant}
-use Rattle.authentication.specs.Judgement.{tagged, lastNonce}
+use Rattle.authentication.proofs.Judged.{denial}
 use Rattle.laws.proofs.Flags.{granted, refuted}
 use Rattle.unit.proofs.Lines.{lines}
 use Rattle.wire.specs.Shape.{request}
-use mathlib.Core.Path.{_≡_, refl, sym, ap, _∙_}
-use mathlib.Core.List.{List}
 use native.Mathlib.Omega.{arith}
-use Prim.Native.Nat.{ℕ}
 use Rattle.ringing.proofs.Rings.{ring-kept-out, ring-values, ring-rung}
 use Rattle.authentication.proofs.Judged.{judged-with}
-use Rattle.ringing.specs.Ringing.{skips}
-use mathlib.Core.Bool.{_||_}
 use borrow.Author.Needs.{needs}
 use Rattle.ringing.proofs.sounding.ring.Statement.{statement}
 use Rattle.ringing.proofs.sounding.ring.Tie as tie
@@ -23,7 +17,7 @@ let-through-requires : tie.Need-let-through-requires
 let-through-requires c κs =
     let derived-key-at = c in
     let start = derived-key-at .before .before in
-    (derived-key-at .derived-key .ensures .fits, omega (arith, start .pre .1 .0))
+    (derived-key-at .derived-key .ensures, omega (arith, start .pre .1 .0))
 
 denied-requires : tie.Need-denied-requires
 denied-requires c κs = search needs
@@ -35,7 +29,7 @@ returns c =
     let derived-key-at = let-through-at .before in
     let start = derived-key-at .before .before in
     denial (start .args .u) (start .args .h .id) (c .denied .ensures)
-    (ring-kept-out (start .args .u) (request (start .args .h) (start .args .additional .now)) (start .args .reach) (ap (λ (k : List ℕ). skips (start .args .u .protection) || tagged k (start .args .u .nonces .newest) (request (start .args .h) (start .args .additional .now))) (sym (derived-key-at .derived-key .ensures .keyIs)) ∙ refuted (let-through-at .let-through .ensures) (if1-at .if1 .taken)))
+    (ring-kept-out (start .args .u) (request (start .args .h) (start .args .additional .now)) (start .args .reach) (refuted (let-through-at .let-through .ensures) (if1-at .if1 .taken)))
 
 ring-mask-requires : tie.Need-ring-mask-requires
 ring-mask-requires c κs =
@@ -60,7 +54,7 @@ returns-2 c =
     let derived-key-at = let-through-at .before in
     let start = derived-key-at .before .before in
     denial (start .args .u) (start .args .h .id) (c .denied2 .ensures)
-    (ring-values (start .args .u) (request (start .args .h) (start .args .additional .now)) (start .args .reach) (ap (λ (k : List ℕ). skips (start .args .u .protection) || tagged k (start .args .u .nonces .newest) (request (start .args .h) (start .args .additional .now))) (sym (derived-key-at .derived-key .ensures .keyIs)) ∙ granted (let-through-at .let-through .ensures) (if1-at .if1 .left)) (refuted (ring-legal-at .ring-legal .ensures) (if2-at .if2 .taken)))
+    (ring-values (start .args .u) (request (start .args .h) (start .args .additional .now)) (start .args .reach) (granted (let-through-at .let-through .ensures) (if1-at .if1 .left)) (refuted (ring-legal-at .ring-legal .ensures) (if2-at .if2 .taken)))
 
 held-volume-requires : tie.Need-held-volume-requires
 held-volume-requires c κs = search needs
@@ -86,7 +80,7 @@ returns-3 c =
     let let-through-at = if1-at .before in
     let derived-key-at = let-through-at .before in
     let start = derived-key-at .before .before in
-    let as-rung = ring-rung (start .args .u) (request (start .args .h) (start .args .additional .now)) (start .args .reach) (ap (λ (k : List ℕ). skips (start .args .u .protection) || tagged k (start .args .u .nonces .newest) (request (start .args .h) (start .args .additional .now))) (sym (derived-key-at .derived-key .ensures .keyIs)) ∙ granted (let-through-at .let-through .ensures) (if1-at .if1 .left))
+    let as-rung = ring-rung (start .args .u) (request (start .args .h) (start .args .additional .now)) (start .args .reach) (granted (let-through-at .let-through .ensures) (if1-at .if1 .left))
     (granted (ring-legal-at .ring-legal .ensures) (if2-at .if2 .left)) (ring-mask-at .ring-mask .ensures) (held-volume-at .held-volume .ensures) (asked-timeout-at .asked-timeout .ensures) (decision-at .ring-decision .ensures) in
     judged-with (start .pre .1 .1) as-rung (c .rung .ensures)
 

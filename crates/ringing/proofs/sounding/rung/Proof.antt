@@ -54,7 +54,7 @@ returns c =
     let notice-data-at = with-sound-at .before in
     let decision-at = notice-data-at .before .before .before .before in
     let start = decision-at .before .before in
-    grant (start .args .u) ringId (start .pre) (c .granted .ensures)
+    grant (start .args .u) ringId _ (start .pre) (c .granted .ensures)
     (rung-ring (start .args .u) (start .args .volume) (start .args .left) (decision-at .decision .given .1) (with-sound-at .with-sound .ensures) (notice-data-at .notice-data .ensures))
 
 returns-2 : tie.Need-returns-2
@@ -63,7 +63,7 @@ returns-2 c =
     let notice-data-at = silenced-at .before in
     let told-at = notice-data-at .before in
     let start = told-at .before .before in
-    grant (start .args .u) ringId (start .pre) (c .granted2 .ensures)
+    grant (start .args .u) ringId _ (start .pre) (c .granted2 .ensures)
     (rung-stop (start .args .u) (start .args .volume) (start .args .left) (told-at .enum-told .given .1) (silenced-at .silenced .ensures) (notice-data-at .notice-data2 .ensures))
 
 returns-3 : tie.Need-returns-3
@@ -71,7 +71,7 @@ returns-3 c =
     let fail-data-at = c .before .before in
     let told-at = fail-data-at .before in
     let start = told-at .before .before in
-    grant (start .args .u) ringId (start .pre) (c .granted3 .ensures)
+    grant (start .args .u) ringId _ (start .pre) (c .granted3 .ensures)
     (rung-fail (start .args .u) (start .args .volume) (start .args .left) (told-at .enum-told2 .given .1) (fail-data-at .fail-data .ensures))
 
 pub rung-spec : {M : Type 1} → statement M

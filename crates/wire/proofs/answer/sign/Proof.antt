@@ -46,17 +46,17 @@ same-length c = search needs
 
 returns : tie.Need-returns
 unfolding signed
-returns c =
-    let a = c .before .before .before .before .before .before .before .before .before .before .before .before .before .before .before .before .before .before .args in
+returns c = λ k e.
+    let a = c .before .before .before .before .before .before .before .before .before .before .before .before .before .before .before .before .before .args in
     let tag = c .before .before .before .before .before .before .before .before .before .before .before .before .before .before .answer-tag in
     let n : length (tag .result) ≡ 8 = search needs in
     record {
-      countIs = omega (arith, length-signed (now (a .key)) (a .nonce) (a .id) (now (a .«data»)));
+      countIs = omega (arith, length-signed k (a .nonce) (a .id) (now (a .«data»)));
       bytesAre =
           written (now (a .answer)) (c .before .before .before .before .before .before .before .before .before .before .before .put .last .0) (c .before .before .before .before .before .before .put2 .last .0) (c .before .before .put3 .last .0)
           (a .id ∷ (tagSize + length (now (a .«data»))) ∷ []) (tag .result) (now (a .«data»)) refl n
           (c .before .before .before .before .before .before .before .before .before .before .before .put .ensures) (c .before .before .before .before .before .before .put2 .ensures) (c .before .before .put3 .ensures)
-          ∙ ap (λ (t : List ℕ). lentAfter (gives (a .id ∷ (tagSize + length (now (a .«data»))) ∷ t ++ now (a .«data»))) (now (a .answer))) (tag .ensures);
+          ∙ ap (λ (t : List ℕ). lentAfter (gives (a .id ∷ (tagSize + length (now (a .«data»))) ∷ t ++ now (a .«data»))) (now (a .answer))) (tag .ensures k e);
     }
 
 pub sign-spec : {M : Type 1} → statement M

@@ -21,26 +21,26 @@ cast-covered c = search needs
 covered-requires : tie.Need-covered-requires
 covered-requires c κs = search needs
 
-slice-aggregate-mac : tie.Need-slice-aggregate-mac
-slice-aggregate-mac c = search needs
+slice-aggregate-mac-under : tie.Need-slice-aggregate-mac-under
+slice-aggregate-mac-under c = search needs
 
-slice-aggregate-mac-2 : tie.Need-slice-aggregate-mac-2
-slice-aggregate-mac-2 c = search needs
+slice-aggregate-mac-under-2 : tie.Need-slice-aggregate-mac-under-2
+slice-aggregate-mac-under-2 c = search needs
 
-mac-requires : tie.Need-mac-requires
-mac-requires c κs = search needs
+mac-under-requires : tie.Need-mac-under-requires
+mac-under-requires c κs = search needs
 
 first-bytes-requires : tie.Need-first-bytes-requires
 first-bytes-requires c κs = search needs
 
 returns : tie.Need-returns
 unfolding answerTag
-returns c =
-    let a = c .before .before .before .before .before .before .before .args in
+returns c = λ k e.
+    let a = c .before .before .before .before .before .before .args in
     c .first-bytes .ensures
     ∙ ap (take tagSize)
-    (c .before .mac .ensures
-    ∙ ap (HMAC (now (a .key)))
+    (c .before .mac-under .ensures k e
+    ∙ ap (HMAC k)
     (covered-then (a .nonce) (a .id) (tagSize + length (now (a .«data»))) (c .before .before .before .before .covered .result) (now (a .«data») ++ (0x01 ∷ [])) (c .before .before .before .before .covered .ensures)))
 
 pub answer-tag-spec : {M : Type 1} → statement M
@@ -50,8 +50,8 @@ answer-tag-spec =
     add-size
     cast-covered
     covered-requires
-    slice-aggregate-mac
-    slice-aggregate-mac-2
-    mac-requires
+    slice-aggregate-mac-under
+    slice-aggregate-mac-under-2
+    mac-under-requires
     first-bytes-requires
     returns)
