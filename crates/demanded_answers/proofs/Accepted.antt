@@ -30,7 +30,8 @@ use Rattle.unit.specs.Outcome.{giving}
 use Rattle.unit.proofs.Lines.{lines, held-count, owner-held}
 use Rattle.authentication.specs.Judgement.{accepts, tagged, usedKey, signedByOwner}
 use Rattle.account_keys.specs.Order.{keyUsed}
-use Rattle.provisioning.specs.Provisioning.{afterUse, ownedBy, awaiting, cleared, readParameters, readState, setKey, mayReplace, clearKey, recoverKey}
+use Rattle.account_reads.specs.Reads.{afterUse, ownedBy, readParameters, readState}
+use Rattle.provisioning.specs.Provisioning.{awaiting, cleared, setKey, mayReplace, clearKey, recoverKey}
 use Rattle.ringing.specs.declared.sounding.Decision.{Decision}
 use Rattle.ringing.specs.Ringing.{skips, heldVolume, askedTimeout, ringDecision, ring, rung, readSound}
 use Rattle.ringing.specs.Protecting.{protect, unprotect}

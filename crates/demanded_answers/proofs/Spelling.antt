@@ -26,7 +26,7 @@ use Rattle.unit.specs.declared.Sound.{Sound}
 use Rattle.unit.specs.Ringable.{inside}
 use Rattle.unit.specs.WellFormed.{wellFormed, heldKeys, ownerKey}
 use Rattle.unit.proofs.Lines.{lines, Lines, held-count, owner-held, ring-held}
-use Rattle.provisioning.specs.Provisioning.{parameters, wireByte, claimed, isKey}
+use Rattle.account_reads.specs.Reads.{parameters, wireByte, claimed, isKey}
 use Rattle.ringing.specs.Ringing.{ringMask, ringLegal, allOfNone, askedTimeout, soundState}
 use Rattle.demanded_answers.proofs.RecordLines.{key-at}
 use Rattle.demanded_answers.specs.Spelled.{keyAtPlace, OwnedWith}

@@ -24,7 +24,8 @@ use Rattle.unit.proofs.Lines.{lines, held-count}
 use Rattle.account_keys.specs.Order.{keyUsed, keyAdded}
 use Rattle.account_keys.proofs.Order.{place-found}
 use Rattle.authentication.specs.Judgement.{usedKey, tagged}
-use Rattle.provisioning.specs.Provisioning.{ownedBy, cleared}
+use Rattle.account_reads.specs.Reads.{ownedBy}
+use Rattle.provisioning.specs.Provisioning.{cleared}
 use Rattle.nonces.specs.Nonces.{nonceFits}
 use Rattle.own_calls.specs.Own.{issuing}
 use Rattle.tag.specs.Calls.{Written, read, write, accountKey, disconnect, own, Act, calls}

@@ -22,7 +22,8 @@ use Rattle.unit.specs.declared.Identity.{Identity}
 use Rattle.unit.specs.WellFormed.{wellFormed, ownerKey}
 use Rattle.unit.specs.Change.{fresh, spent}
 use Rattle.authentication.specs.Judgement.{accepts, lastNonce}
-use Rattle.provisioning.specs.Provisioning.{afterUse, awaiting}
+use Rattle.account_reads.specs.Reads.{afterUse}
+use Rattle.provisioning.specs.Provisioning.{awaiting}
 use Rattle.tag.specs.Calls.{Written, disconnect, Act, calls}
 use Rattle.demanded_answers.specs.History.{step, after, writes, Bytes}
 use Rattle.demanded_nonces.specs.Among.{NoneIn, Accepts, accepts, BringsIn, bringsIn}

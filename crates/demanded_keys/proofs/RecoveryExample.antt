@@ -26,7 +26,8 @@ use Rattle.unit.specs.Outcome.{Outcome, giving, formed}
 use Rattle.unit.proofs.Lines.{lines}
 use Rattle.unit.proofs.Kept.{fresh-formed, issued-kept, spent-kept, owner-kept, waiting-kept, consent-kept}
 use Rattle.account_keys.specs.Order.{keyUsed, keyAdded}
-use Rattle.provisioning.specs.Provisioning.{awaiting, ownedBy, afterUse}
+use Rattle.account_reads.specs.Reads.{ownedBy, afterUse}
+use Rattle.provisioning.specs.Provisioning.{awaiting}
 use Rattle.own_calls.specs.Own.{keeping, pressed, broughtIn, disconnected}
 use Rattle.tag.specs.Calls.{read, button, accountKey, disconnect, own, guarded, call, Act, calls, act}
 use Rattle.demanded_answers.specs.History.{step, after, sends, Bytes, AllOfBytes}

@@ -18,7 +18,8 @@ use Rattle.standing.specs.Standing.{currentScalar, currentIdentifier, currentR,
 use Rattle.unit.specs.WellFormed.{wellFormed}
 use Rattle.unit.specs.Outcome.{Outcome, formed, answering}
 use Rattle.authentication.specs.Judgement.{Judgement, accepts, rejects, under, usedKey, signedByOwner, concluded}
-use Rattle.provisioning.specs.Provisioning.{readParameters, readState, setKey, mayReplace, clearKey, cleared, recoverKey}
+use Rattle.account_reads.specs.Reads.{readParameters, readState}
+use Rattle.provisioning.specs.Provisioning.{setKey, mayReplace, clearKey, cleared, recoverKey}
 use Rattle.ringing.specs.declared.sounding.Decision.{Decision}
 use Rattle.ringing.specs.Ringing.{ring, rung, readSound}
 use Rattle.ringing.specs.Protecting.{protect, unprotect}

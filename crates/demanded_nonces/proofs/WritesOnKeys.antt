@@ -24,7 +24,8 @@ use Rattle.unit.specs.Outcome.{Outcome, giving, refusing}
 use Rattle.account_keys.specs.Order.{keyUsed}
 use Rattle.account_keys.proofs.Order.{place-found, key-owned}
 use Rattle.authentication.specs.Judgement.{Judgement, accepts, rejects, answered, under, usedKey, signedByOwner, tagged, proves, lastNonce, concluded}
-use Rattle.provisioning.specs.Provisioning.{readParameters, readState, setKey, mayReplace, afterUse, ownedBy, awaiting, clearKey, cleared, recoverKey}
+use Rattle.account_reads.specs.Reads.{readParameters, readState, afterUse, ownedBy}
+use Rattle.provisioning.specs.Provisioning.{setKey, mayReplace, awaiting, clearKey, cleared, recoverKey}
 use Rattle.ringing.specs.declared.sounding.Decision.{Decision}
 use Rattle.ringing.specs.Ringing.{skips, ringLegal, ring, rung, readSound}
 use Rattle.ringing.specs.Protecting.{flagOf, protect, unprotect}

@@ -25,7 +25,8 @@ use Rattle.unit.specs.Outcome.{Outcome, giving, refusing}
 use Rattle.unit.proofs.Lines.{held-count}
 use Rattle.unit.proofs.Kept.{spent-kept}
 use Rattle.authentication.specs.Judgement.{Judgement, accepts, rejects, under, usedKey, onlyIf, signedByOwner, tagged, proves, lastNonce, concluded}
-use Rattle.provisioning.specs.Provisioning.{readParameters, readState, setKey, mayReplace, clearKey, cleared, recoverKey}
+use Rattle.account_reads.specs.Reads.{readParameters, readState}
+use Rattle.provisioning.specs.Provisioning.{setKey, mayReplace, clearKey, cleared, recoverKey}
 use Rattle.ringing.specs.declared.sounding.Decision.{Decision}
 use Rattle.ringing.specs.Ringing.{skips, ringLegal, ringMask, heldVolume, askedTimeout, reached, outOfReach, stopDecision, ringDecision, ring, rung, soundState as soundBytes, readSound}
 use Rattle.ringing.specs.Protecting.{flagOf, protect, unprotect}

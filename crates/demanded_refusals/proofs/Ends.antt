@@ -21,7 +21,8 @@ use Rattle.unit.specs.Change.{spent, noUnit}
 use Rattle.unit.specs.Outcome.{Outcome, giving, refusing, formed, answering}
 use Rattle.unit.proofs.Lines.{lines}
 use Rattle.authentication.specs.Judgement.{Judgement, accepts, rejects, under, concluded}
-use Rattle.provisioning.specs.Provisioning.{readParameters, readState, setKey, clearKey, recoverKey}
+use Rattle.account_reads.specs.Reads.{readParameters, readState}
+use Rattle.provisioning.specs.Provisioning.{setKey, clearKey, recoverKey}
 use Rattle.ringing.specs.declared.sounding.Decision.{Decision}
 use Rattle.ringing.specs.Ringing.{ring, rung, readSound}
 use Rattle.ringing.specs.Protecting.{protect, unprotect}

@@ -22,7 +22,8 @@ use Rattle.unit.specs.WellFormed.{heldKeys, rowOf, ownerKey}
 use Rattle.unit.specs.Change.{spent}
 use Rattle.unit.proofs.Lines.{held-count}
 use Rattle.authentication.specs.Judgement.{Judgement, accepts, rejects, under, onlyIf, tagged, proves, usedKey, signedByOwner}
-use Rattle.provisioning.specs.Provisioning.{readParameters, readState, mayReplace, setKey, clearKey, recoverKey}
+use Rattle.account_reads.specs.Reads.{readParameters, readState}
+use Rattle.provisioning.specs.Provisioning.{mayReplace, setKey, clearKey, recoverKey}
 use Rattle.ringing.specs.declared.sounding.Decision.{Decision}
 use Rattle.ringing.specs.Ringing.{skips, ringLegal, rung, ring, readSound}
 use Rattle.ringing.specs.Protecting.{protect, unprotect}

@@ -20,7 +20,8 @@ use Rattle.unit.specs.WellFormed.{heldKeys, rowOf, ownerKey}
 use Rattle.unit.specs.Change.{spent}
 use Rattle.unit.proofs.Lines.{held-count}
 use Rattle.authentication.specs.Judgement.{Judgement, rejects, under, tagged, proves, usedKey, signedByOwner}
-use Rattle.provisioning.specs.Provisioning.{readParameters, readState, mayReplace, setKey, clearKey, recoverKey}
+use Rattle.account_reads.specs.Reads.{readParameters, readState}
+use Rattle.provisioning.specs.Provisioning.{mayReplace, setKey, clearKey, recoverKey}
 use Rattle.ringing.specs.Ringing.{skips, ring, readSound}
 use Rattle.ringing.specs.Protecting.{protect, unprotect}
 use Rattle.requests.specs.Write.{byId, judged}

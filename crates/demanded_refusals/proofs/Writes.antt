@@ -28,7 +28,8 @@ use Rattle.unit.proofs.Masks.{inside-below, below-inside}
 use Rattle.unit.proofs.Lines.{RingLines, VolumeLines, lines, held-count, settings-legal}
 use Rattle.unit.proofs.Kept.{fresh-formed, clock-kept, battery-kept, pairing-kept, nonces-kept, spent-kept, owner-kept, waiting-kept, silenced-kept, ring-kept, protection-kept}
 use Rattle.authentication.specs.Judgement.{Judgement, accepts, rejects, lastNonce, tagged, usedKey, onlyIf, signedByOwner, under, concluded}
-use Rattle.provisioning.specs.Provisioning.{readParameters, readState, setKey, clearKey, recoverKey, mayReplace, claimed, ownedBy, afterUse, awaiting, cleared}
+use Rattle.account_reads.specs.Reads.{readParameters, readState, claimed, ownedBy, afterUse}
+use Rattle.provisioning.specs.Provisioning.{setKey, clearKey, recoverKey, mayReplace, awaiting, cleared}
 use Rattle.ringing.specs.declared.sounding.Decision.{Decision}
 use Rattle.ringing.specs.Ringing.{ring, rung, readSound, skips, ringLegal, ringMask, reached, outOfReach, stopDecision, ringDecision, allOfNone, askedVolume, askedTimeout, heldVolume}
 use Rattle.ringing.specs.Protecting.{protect, unprotect}

@@ -1,2 +1,1 @@
-pub mod PowerByte
 pub mod Judging

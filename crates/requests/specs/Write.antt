@@ -10,7 +10,8 @@ use Rattle.unit.specs.Change.{spent, keyed}
 use Rattle.unit.specs.Ringable.{inside}
 use Rattle.unit.specs.Outcome.{Outcome, refusing}
 use Rattle.authentication.specs.Judgement.{Judgement, notAuthenticated, invalidValue, unless, concluded}
-use Rattle.provisioning.specs.Provisioning.{readParameters, readState, setKey, clearKey, recoverKey}
+use Rattle.account_reads.specs.Reads.{readParameters, readState}
+use Rattle.provisioning.specs.Provisioning.{setKey, clearKey, recoverKey}
 use Rattle.ringing.specs.Ringing.{ring, readSound}
 use Rattle.ringing.specs.Protecting.{protect, unprotect}
 

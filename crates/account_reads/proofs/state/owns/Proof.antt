@@ -1,8 +1,8 @@
 -- `state::owns` meets its contract, a case of the owner each.
-use Rattle.provisioning.proofs.Judging.{owner-none, owner-is}
+use Rattle.account_reads.proofs.Judging.{owner-none, owner-is}
 use borrow.Author.Needs.{needs}
-use Rattle.provisioning.proofs.state.owns.Statement.{statement}
-use Rattle.provisioning.proofs.state.owns.Tie as tie
+use Rattle.account_reads.proofs.state.owns.Statement.{statement}
+use Rattle.account_reads.proofs.state.owns.Tie as tie
 
 enum-told : tie.Need-enum-told
 enum-told c = search needs

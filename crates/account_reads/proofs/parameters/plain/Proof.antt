@@ -1,6 +1,6 @@
 -- `parameters::plain` meets its contract: power, seconds and the rest are put one after the other over zeros.
-use Rattle.provisioning.specs.Provisioning.{wireByte, parameters}
-use Rattle.provisioning.proofs.PowerByte.{legal-fits}
+use Rattle.account_reads.specs.Reads.{wireByte, parameters}
+use Rattle.account_reads.proofs.PowerByte.{legal-fits}
 use Rattle.laws.proofs.Copied.{copied-next}
 use mathlib.Core.Path.{_≡_, refl, ap, ap₂, _∙_}
 use mathlib.Core.List.{List, [], _∷_, _++_, append-assoc}
@@ -9,8 +9,8 @@ use lib.ListN.{length, drop, replicate}
 use native.Mathlib.Omega.{arith}
 use mir.Facts.{toZ-ofZ}
 use borrow.Author.Needs.{needs}
-use Rattle.provisioning.proofs.parameters.plain.Statement.{statement}
-use Rattle.provisioning.proofs.parameters.plain.Tie as tie
+use Rattle.account_reads.proofs.parameters.plain.Statement.{statement}
+use Rattle.account_reads.proofs.parameters.plain.Tie as tie
 
 wire-byte-requires : tie.Need-wire-byte-requires
 wire-byte-requires c κs = search needs

@@ -1,6 +1,6 @@
 -- `state::state_bits` meets its contract, a case of the two bits each.
-use Rattle.provisioning.proofs.state.state_bits.Statement.{statement}
-use Rattle.provisioning.proofs.state.state_bits.Tie as tie
+use Rattle.account_reads.proofs.state.state_bits.Statement.{statement}
+use Rattle.account_reads.proofs.state.state_bits.Tie as tie
 
 returns : tie.Need-returns
 returns c = rw (c .before .if1 .taken, c .if2 .taken)

@@ -6,8 +6,8 @@ use Prim.Native.Nat.{ℕ, _+_}
 use lib.ListN.{length, replicate}
 use native.Mathlib.Omega.{arith}
 use borrow.Author.Needs.{needs}
-use Rattle.provisioning.proofs.state.state_of.Statement.{statement}
-use Rattle.provisioning.proofs.state.state_of.Tie as tie
+use Rattle.account_reads.proofs.state.state_of.Statement.{statement}
+use Rattle.account_reads.proofs.state.state_of.Tie as tie
 
 slice-aggregate-put : tie.Need-slice-aggregate-put
 slice-aggregate-put c = search needs

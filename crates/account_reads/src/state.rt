@@ -7,7 +7,7 @@ ghost use lib.ListN.{length, getD};
 ghost use Rattle.unit.specs.WellFormed.{heldKeys, ownerKey, accountsLegal, ownerLegal};
 ghost use Rattle.wire.specs.Shape.{request};
 ghost use Rattle.authentication.specs.Promises.{Ready, Judges};
-ghost use Rattle.provisioning.specs.Provisioning.{ownedBy, isKey, stateBits, readState};
+ghost use Rattle.account_reads.specs.Reads.{ownedBy, isKey, stateBits, readState};
 use authentication::Signer;
 use authentication::Verdict;
 use authentication::account;

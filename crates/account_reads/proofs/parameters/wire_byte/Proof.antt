@@ -1,15 +1,15 @@
 -- `parameters::wire_byte` meets its contract: the power comes back from its bits, and a negative one is raised by 256.
 --
-use Rattle.provisioning.proofs.PowerByte.{byte-below, raised, as-it-is}
-use Rattle.provisioning.specs.Provisioning.{wireByte}
+use Rattle.account_reads.proofs.PowerByte.{byte-below, raised, as-it-is}
+use Rattle.account_reads.specs.Reads.{wireByte}
 use lib.IntN.{pos, natAbs}
 use mathlib.Core.Path.{ap}
 use mir.Facts.{toZ-ofZ}
 use mir.Syntax.{w32}
 use mir.Val.{SFits}
 use native.Mathlib.Omega.{arith}
-use Rattle.provisioning.proofs.parameters.wire_byte.Statement.{statement}
-use Rattle.provisioning.proofs.parameters.wire_byte.Tie as tie
+use Rattle.account_reads.proofs.parameters.wire_byte.Statement.{statement}
+use Rattle.account_reads.proofs.parameters.wire_byte.Tie as tie
 
 add-result : tie.Need-add-result
 add-result c =

@@ -1,9 +1,9 @@
 -- `state::owned_by` meets its contract, a case of the owner each.
-use Rattle.provisioning.proofs.Judging.{claims}
+use Rattle.account_reads.proofs.Judging.{claims}
 use mathlib.Core.Path.{_∙_}
 use borrow.Author.Needs.{needs}
-use Rattle.provisioning.proofs.state.owned_by.Statement.{statement}
-use Rattle.provisioning.proofs.state.owned_by.Tie as tie
+use Rattle.account_reads.proofs.state.owned_by.Statement.{statement}
+use Rattle.account_reads.proofs.state.owned_by.Tie as tie
 
 enum-told : tie.Need-enum-told
 enum-told c = search needs

@@ -9,7 +9,7 @@ use mir.Val.{SFits}
 use mir.Syntax.{w32}
 use borrow.Author.Tests.{ltb-true, leb-true, le-ltb}
 use Rattle.unit.specs.WellFormed.{powerLegal}
-use Rattle.provisioning.specs.Provisioning.{wireByte}
+use Rattle.account_reads.specs.Reads.{wireByte}
 
 pub byte-below : (p : ℤ) → powerLegal p ≡ true → wireByte p < 256
 byte-below (pos n) h = omega (arith, leb-true n 20 h)

@@ -6,10 +6,10 @@ use Rattle.unit.proofs.Lines.{lines, accounts-legal}
 use Rattle.wire.specs.Shape.{request}
 use mathlib.Core.Path.{_≡_, refl, sym, ap, _∙_}
 use native.Mathlib.Omega.{arith}
-use Rattle.provisioning.proofs.Judging.{parameters-nowhere, parameters-read}
+use Rattle.account_reads.proofs.Judging.{parameters-nowhere, parameters-read}
 use borrow.Author.Needs.{needs}
-use Rattle.provisioning.proofs.parameters.read_parameters.Statement.{statement}
-use Rattle.provisioning.proofs.parameters.read_parameters.Tie as tie
+use Rattle.account_reads.proofs.parameters.read_parameters.Statement.{statement}
+use Rattle.account_reads.proofs.parameters.read_parameters.Tie as tie
 
 used-key-requires : tie.Need-used-key-requires
 used-key-requires c κs =

@@ -4,7 +4,7 @@ ghost use mathlib.Core.Bool.{true};
 ghost use Rattle.unit.specs.WellFormed.{powerLegal};
 ghost use Rattle.wire.specs.Shape.{request};
 ghost use Rattle.authentication.specs.Promises.{Ready, Judges};
-ghost use Rattle.provisioning.specs.Provisioning.{wireByte, parameters as parametersOf, readParameters};
+ghost use Rattle.account_reads.specs.Reads.{wireByte, parameters as parametersOf, readParameters};
 use authentication::Signer;
 use authentication::Verdict;
 use authentication::account;

@@ -6,15 +6,15 @@ use Rattle.unit.proofs.Lines.{lines, accounts-legal}
 use Rattle.wire.specs.Shape.{request}
 use mathlib.Core.Path.{_≡_, refl, ap}
 use native.Mathlib.Omega.{arith}
-use Rattle.provisioning.proofs.Judging.{owned-held, owned-ready, state-nowhere, state-read, shown-all, shown-none}
+use Rattle.account_reads.proofs.Judging.{owned-held, owned-ready, state-nowhere, state-read, shown-all, shown-none}
 use Rattle.unit.specs.WellFormed.{ownerKey, heldKeys}
-use Rattle.provisioning.specs.Provisioning.{isKey, stateBits}
+use Rattle.account_reads.specs.Reads.{isKey, stateBits}
 use mathlib.Core.List.{List, [], _∷_}
 use Prim.Native.Nat.{ℕ}
 use lib.ListN.{getD}
 use borrow.Author.Needs.{needs}
-use Rattle.provisioning.proofs.state.read_state.Statement.{statement}
-use Rattle.provisioning.proofs.state.read_state.Tie as tie
+use Rattle.account_reads.proofs.state.read_state.Statement.{statement}
+use Rattle.account_reads.proofs.state.read_state.Tie as tie
 
 used-key-requires : tie.Need-used-key-requires
 used-key-requires c κs =

@@ -1,0 +1,2 @@
+pub mod PowerByte
+pub mod Judging
