@@ -8,7 +8,7 @@ use native.Mathlib.Numerals.{add-one}
 use lib.Dec.{eqb}
 use lib.ListN.{length, getD, drop, replicate, drop-of-length-le}
 use lib.Seq.{drop-cons, drop-drop}
-use borrow.Author.Tests.{eqb-true, eq-eqb, ne-eqb}
+use borrow.Author.Tests.{eqb-true, eq-eqb}
 use Rattle.laws.specs.Bytes.{sameBytes, allZero}
 use Rattle.laws.proofs.Flags.{and-left, and-right, both, fails, agree, clash}
 
@@ -71,15 +71,9 @@ replicate-zeros zero = refl
 replicate-zeros (suc n) = replicate-zeros n
 
 module _ (s : List ℕ) (i : ℕ) where
-  zeros-from : i < length s → allZero (drop i s) ≡ (eqb (getD s i 0) 0 && allZero (drop (i + 1) s))
+  pub zeros-from : i < length s → allZero (drop i s) ≡ (eqb (getD s i 0) 0 && allZero (drop (i + 1) s))
   unfolding allZero
   zeros-from h = rw (add-one i, drop-cons s i 0 h)
-
-  pub zeros-next : i < length s → getD s i 0 ≡ 0 → allZero (drop i s) ≡ allZero (drop (i + 1) s)
-  zeros-next h e = zeros-from h ∙ rw (eq-eqb (getD s i 0) 0 e)
-
-  pub zeros-stop : i < length s → (getD s i 0 ≡ 0 → ⊥) → allZero (drop i s) ≡ false
-  zeros-stop h d = zeros-from h ∙ rw (ne-eqb (getD s i 0) 0 d)
 
   pub zeros-end : length s ≤ i → allZero (drop i s) ≡ true
   unfolding allZero

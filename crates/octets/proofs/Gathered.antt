@@ -1,11 +1,11 @@
--- Differences gathered by OR: nothing is gathered exactly if nothing was before and the next two bytes are equal.
+-- Differences gathered by OR: nothing is gathered exactly if nothing was before and the next two bytes are equal. A byte's bits are its difference from 0.
 use Prim.Native.Nat.{ℕ}
 use mathlib.Core.Path.{_≡_, refl, sym, ap, _∙_}
 use mathlib.Core.Bool.{Bool, true, false, _&&_}
 use mathlib.Core.List.{List}
 use native.Mathlib.Omega.{arith}
 use lib.Dec.{eqb}
-use lib.Bits.{bitOr, bitXor, bitAnd, or-add-and, xor-add-and, and-le-l, and-le-r, xor-self, or-zero-l}
+use lib.Bits.{bitOr, bitXor, bitAnd, or-add-and, xor-add-and, and-le-l, and-le-r, xor-self, xor-zero-r, or-zero-l}
 use borrow.Author.Tests.{eqb-true, eq-eqb}
 use Rattle.laws.proofs.Flags.{agree, both, and-left, and-right}
 
@@ -25,6 +25,9 @@ gathered d x y =
     let first : d ≡ 0 = eqb-true d 0 (and-left (eqb d 0) (eqb x y) e) in
     let second : x ≡ y = eqb-true x y (and-right (eqb d 0) (eqb x y) e) in
     rw (first, second, xor-self y))
+
+pub gathered-bits : (d x : ℕ) → eqb (bitOr d x) 0 ≡ eqb d 0 && eqb x 0
+gathered-bits d x = rw xor-zero-r at (gathered d x 0)
 
 pub and-assoc : (a b c : Bool) → (a && b) && c ≡ a && (b && c)
 and-assoc true b c = refl

@@ -35,18 +35,17 @@ pub fn same(a: &[u8], b: &[u8]) -> bool
     difference == 0
 }
 
-// Whether every byte is zero.
+// Whether every byte is zero. Every byte is looked at, whatever the others are: their bits are gathered.
 pub fn all_zero(s: &[u8]) -> bool
     ensures { λ r. ⌜ r ≡ allZero (now (s .entry)) ⌝ }
 {
+    let mut bits: u8 = 0;
     let mut i = 0;
     while i < s.len() {
-        if s[i] != 0 {
-            return false;
-        }
+        bits = bits | s[i];
         i += 1;
     }
-    true
+    bits == 0
 }
 
 // The bytes of a slice as an array: one function for each length that is asked for.
