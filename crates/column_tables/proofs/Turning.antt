@@ -1,8 +1,8 @@
 -- A column mixed is the sum of its bytes' columns mixed, each turned to its place: at the powers of 2, and so everywhere. One law; MixColumns and
 -- InvMixColumns are its two uses.
-use mathlib.Core.Path.{_≡_, refl, sym, ap, _∙_}
+use mathlib.Core.Path.{_≡_, refl, ap}
 use mathlib.Core.List.{List, [], _∷_}
-use Prim.Native.Nat.{ℕ, _+_, _*_, _^_, _<_}
+use Prim.Native.Nat.{ℕ, _^_, _<_}
 use native.Mathlib.Omega.{arith}
 use lib.Bits.{bitXor}
 use lib.Dec.{T, lit<}

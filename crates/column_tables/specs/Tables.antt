@@ -1,7 +1,6 @@
--- A column with one byte that is not 0, mixed; and mixed columns turned and added.
-use Prim.Native.Nat.{ℕ, _-_, _*_, _/_, _%_, _^_}
+-- A column with one byte that is not 0, mixed.
+use Prim.Native.Nat.{ℕ}
 use mathlib.Core.List.{[], _∷_}
-use lib.Bits.{bitXor}
 use Rattle.laws.specs.Bytes.{number}
 use Rattle.columns.specs.Columns.{mixedWord}
 

@@ -1,10 +1,10 @@
 -- Columns in words: shifts, masks and XOR respect XOR, and so does a word made of bytes that do; so what words and bytes give is the same as
 -- soon as it is the same at the 32 powers of 2. One law; doubling, mixing and its inverse are uses.
 use mathlib.Core.Path.{_≡_, refl, sym, ap, ap₂, _∙_}
-use mathlib.Core.List.{List, [], _∷_, map}
-use Prim.Native.Nat.{ℕ, zero, suc, _+_, _-_, _*_, _/_, _%_, _^_, _<_}
+use mathlib.Core.List.{List, [], _∷_}
+use Prim.Native.Nat.{ℕ, _+_, _-_, _*_, _/_, _%_, _^_, _<_}
 use native.Mathlib.Omega.{arith}
-use native.Mathlib.Nat.{add-zero, mod-lt}
+use native.Mathlib.Nat.{add-zero}
 use lib.Arith.{bin-ind}
 use lib.Bits.{bitAnd, bitXor, and-shr, and-mod, xor-shr, xor-mod, xor-block, xor-lt, xor-zero-l, and-zero-l}
 use lib.Dec.{T, lit<}

@@ -95,6 +95,15 @@ module _ (Nk n : ℕ) (key w : List ℕ) (f : Fours Nk n) (fits : Nk + n + 4 ≤
       let whole : length (W ++ (a ∷ b ∷ c ∷ d ∷ [])) ≡ Nk + (n + 4) = length-append W (a ∷ b ∷ c ∷ d ∷ []) ∙ rw long (omega arith) in
       ap bytesOf (ap (take (Nk + (n + 4))) eafter ∙ take-at (W ++ (a ∷ b ∷ c ∷ d ∷ [])) (drop (Nk + n + 4) w) (Nk + (n + 4)) whole) ∙ fourth
 
+  -- the fourth word where it stands
+  pub last-stored : (a b c d : ℕ) (after : List ℕ) → after ≡ take (Nk + n) w ++ (a ∷ b ∷ c ∷ d ∷ []) ++ drop (Nk + n + 4) w
+      → d ≡ getD after (Nk + (n + 4) - 1) 0
+  last-stored a b c d after eafter =
+      let rest : List ℕ = drop (Nk + n + 4) w in
+      let e : W ++ (a ∷ b ∷ c ∷ d ∷ []) ++ rest ≡ (W ++ (a ∷ b ∷ c ∷ [])) ++ d ∷ rest = simp append-assoc in
+      let place : length (W ++ (a ∷ b ∷ c ∷ [])) ≡ Nk + (n + 4) - 1 = length-append W (a ∷ b ∷ c ∷ []) ∙ rw long (omega arith) in
+      sym (ap (λ (l : List ℕ). getD l (Nk + (n + 4) - 1) 0) (eafter ∙ e) ∙ getD-at (W ++ (a ∷ b ∷ c ∷ [])) d rest 0 (Nk + (n + 4) - 1) place)
+
 -- ---- what is added to the first of four, from the bytes p of the word before it
 
 module _ (Nk n : ℕ) (w p : List ℕ) (previous : ℕ) (f : Fours Nk n) (before : word w (n + Nk - 1) ≡ bigEndian 4 previous) (ep : p ≡ bigEndian 4 previous) where

@@ -1,13 +1,12 @@
 -- Counting in fours over turns of 4 or 8: the place in the turn and the number of turns, four further; and the round constant that goes with the
 -- turn.
 use mathlib.Core.Path.{_≡_, sym, ap, _∙_}
-use mathlib.Core.Logic.{⊎-elim}
-use Prim.Native.Nat.{ℕ, suc, _+_, _*_, _/_, _%_, _≤_, _<_}
+use Prim.Native.Nat.{ℕ, _+_, _/_, _%_, _≤_, _<_}
 use native.Mathlib.Decide.{ℕ-discrete}
 use native.Mathlib.Numerals.{add-one}
 use native.Mathlib.Omega.{arith}
 use lib.Dec.{lit<}
-use Rattle.substitution.specs.Field.{_•_, xtime, xtimes}
+use Rattle.substitution.specs.Field.{_•_, xtimes}
 use Rattle.substitution.proofs.Bytes.{xtimes-below}
 use Rattle.substitution.proofs.Linear.{two-xtime}
 use Rattle.key_schedule.specs.Fours.{Fours}

@@ -1,21 +1,19 @@
 -- Four elements of a list, read from it and stored into it; and what is added to a word of the key schedule, by the case of its place.
-use mathlib.Core.Path.{_≡_, refl, sym, ap, ap₂, _∙_}
+use mathlib.Core.Path.{_≡_, refl, sym, ap, _∙_}
 use mathlib.Core.Bool.{Bool, true, false, cond, _&&_}
-use mathlib.Core.List.{List, [], _∷_, _++_, map}
-use Prim.Native.Nat.{ℕ, suc, _+_, _-_, _*_, _/_, _%_, _≤_, _<_}
+use mathlib.Core.List.{List, [], _∷_, _++_}
+use Prim.Native.Nat.{ℕ, suc, _+_, _-_, _/_, _%_, _≤_, _<_}
 use native.Mathlib.Omega.{arith}
-use native.Mathlib.Nat.{add-zero, add-comm, add-mod-right, add-div-right}
-use native.Mathlib.Numerals.{add-one}
-use borrow.Author.Tests.{eq-eqb, ne-eqb, lt-ltb, le-ltb}
-use lib.Bits.{bitXor, xor-zero-r}
+use native.Mathlib.Nat.{add-zero, add-mod-right, add-div-right}
+use borrow.Author.Tests.{eq-eqb, ne-eqb, lt-ltb}
 use lib.Dec.{ltb, lit<}
-use lib.ListN.{length, getD, take, drop, set, length-drop, length-append}
-use lib.Seq.{getD-take, getD-drop, length-take-le, sets-eq, take-at}
+use lib.ListN.{length, getD, take, drop, set, length-drop}
+use lib.Seq.{getD-take, getD-drop, length-take-le, sets-eq}
 use Rattle.laws.specs.Bytes.{tabulate, _⊕_}
-use Rattle.laws.proofs.Tabulate.{tabulate-getD, filledTo}
+use Rattle.laws.proofs.Tabulate.{tabulate-getD}
 use Rattle.substitution.specs.Field.{xtimes}
-use Rattle.substitution.specs.Box.{SBox, TableOf}
-use Rattle.key_schedule.specs.Expansion.{word, temp, expanded, RotWord, SubWord, Rcon}
+use Rattle.substitution.specs.Box.{SBox}
+use Rattle.key_schedule.specs.Expansion.{word, temp, RotWord, SubWord, Rcon}
 
 pub bytes-of : (a : List ℕ) → length a ≡ 4 → a ≡ getD a 0 0 ∷ getD a 1 0 ∷ getD a 2 0 ∷ getD a 3 0 ∷ []
 unfolding tabulate

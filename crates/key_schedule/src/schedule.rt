@@ -95,12 +95,14 @@ fn put_schedule(table: &[u8; 256], nk: usize, more: usize, key: &[u8], w: &mut [
     let mut phase: usize = 0;
     let mut constant: u8 = 1;
     let mut n: usize = 0;
+    let mut previous = w[nk - 1];
     while n < more {
-        let a = w[n] ^ added(table, phase, constant, w[nk + n - 1]);
+        let a = w[n] ^ added(table, phase, constant, previous);
         let b = w[n + 1] ^ a;
         let c = w[n + 2] ^ b;
         let d = w[n + 3] ^ c;
         put_four(w, nk + n, [a, b, c, d]);
+        previous = d;
         constant = next_constant(nk, phase, constant);
         phase = next_phase(nk, phase);
         n += 4;

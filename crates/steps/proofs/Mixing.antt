@@ -12,7 +12,6 @@ use Rattle.laws.proofs.Table.{sameBelow, below}
 use Rattle.laws.proofs.Tabulate.{getD-tabulate, tabulate-ext, tabulate-getD}
 use Rattle.laws.proofs.Xor.{Additive, additive-agree}
 use Rattle.substitution.specs.Field.{xtime, xtimes, bit, productBelow, _•_}
-use Rattle.laws.specs.Bytes.{tabulate}
 use Rattle.columns.specs.Columns.{mixedByte}
 use Rattle.columns.proofs.Columns.{mixedByte-xor}
 use Rattle.steps.specs.Steps.{at, stateOf, mixed, MixColumns, InvMixColumns}

@@ -1,12 +1,11 @@
 -- Words and their bytes: a word of four bytes gives them back, XOR goes byte by byte, and a run of whole words is the bytes of those words.
-use mathlib.Core.Path.{_≡_, refl, sym, ap, ap₂, _∙_}
+use mathlib.Core.Path.{_≡_, refl, sym, ap, _∙_}
 use mathlib.Core.List.{List, [], _∷_, _++_, append-assoc}
 use Prim.Native.Nat.{ℕ, zero, suc, _+_, _*_, _/_, _%_, _≤_, _<_}
 use native.Mathlib.Omega.{arith}
 use lib.Bits.{bitXor, xor-shr, xor-mod}
 use lib.ListN.{length, getD, take, drop}
-use lib.Seq.{drop-cons, drop-drop}
-use native.Mathlib.Numerals.{add-one}
+use lib.Seq.{drop-cons}
 use Rattle.laws.specs.Bytes.{bigEndian, number, numberAfter, _⊕_}
 use Rattle.laws.proofs.Xor.{Additive}
 use Rattle.words.specs.Words.{bytesOf}
