@@ -21,18 +21,41 @@ static void hash(void) { tag_sha256(message, sizeof message, answer, 32); }
 static void mac(void) { tag_hmac_sha256(key, 16, message, sizeof message, answer, 32); }
 static void encrypt(void) { tag_aes128_encrypt(key, 16, key, 16, answer, 16); }
 static void encrypt256(void) { tag_aes256_encrypt(message, 32, key, 16, answer, 16); }
-/* 0x00 with the tag of the account key: search, HMAC, AES and the signed answer */
-static void write_of(uint8_t id) {
-    uint8_t covered[11] = {1}, tag[32], w[10] = {id, 8};
+static void decrypt(void) { tag_aes128_decrypt(key, 16, key, 16, answer, 16); }
+/* A write that is served: its tag under a key, on the nonce last issued. The tag is made before it is measured. */
+static uint8_t request[50];
+static void sign(uint8_t id, const uint8_t *with, uint64_t size, const uint8_t *data, uint8_t data_size) {
+    uint8_t covered[51] = {1}, tag[32];
     memcpy(covered + 1, record + TAG_NONCES_NEWEST_AT, TAG_NONCE_SIZE);
-    covered[9] = id, covered[10] = 8;
-    tag_hmac_sha256(key, 16, covered, 11, tag, 32);
-    memcpy(w + 2, tag, 8);
-    served = tag_write(record, sizeof record, w, 10, 0, answer, TAG_ANSWER_ROOM);
+    request[0] = covered[9] = id, request[1] = covered[10] = (uint8_t)(TAG_TAG_SIZE + data_size);
+    memcpy(covered + 11, data, data_size), memcpy(request + TAG_HEAD_SIZE, data, data_size);
+    tag_hmac_sha256(with, size, covered, 11 + (uint64_t)data_size, tag, 32);
+    memcpy(request + 2, tag, TAG_TAG_SIZE);
 }
-static void write_parameters(void) { write_of(0x00); }
-/* 0x01: a multiple on the curve too */
-static void write_state(void) { write_of(0x01); }
+/* All three parts are in reach. */
+static void write_request(void) { served = tag_write(record, sizeof record, request, 2 + (uint64_t)request[1], 7, answer, TAG_ANSWER_ROOM); }
+/* The recovery, ring or protection key, or a key proof, made with these last bytes. */
+static void made(uint8_t *out, const uint8_t *last, uint64_t size) {
+    uint8_t message[40];
+    memcpy(message, record + TAG_IDENTITY_BYTES_AT, 32), memcpy(message + 32, last, size);
+    tag_sha256(message, 32 + size, out, 32);
+}
+static void sign_request(uint8_t id) {
+    uint8_t derived[32], data[40] = {0};
+    read_nonce();
+    if (id == 0x02) made(derived, record + TAG_NONCES_NEWEST_AT, 8), memcpy(data + 32, derived, 8), sign(id, key, 16, data, 40);
+    else if (id == 0x04) made(derived, (const uint8_t[]){1}, 1), sign(id, derived, 8, data, 0);
+    else if (id == 0x05) made(derived, (const uint8_t[]){2}, 1), sign(id, derived, 8, (const uint8_t[]){1, 0, 9, 1}, 4);
+    else sign(id, key, 16, data, 0);
+}
+/* An owner, an identity key in force, pairing on. */
+static void provision(void) {
+    uint8_t data[32] = {9};
+    tag_new(record, sizeof record, -20, 3, 1), add_key();
+    sign_request(0x01), write_request();
+    read_nonce(), sign(0x02, key, 16, data, 32), write_request();
+    tag_disconnect(record, sizeof record), tag_pairing(record, sizeof record, 1);
+}
 
 static size_t used(void (*f)(void)) {
     memset(stack, PAINT, SIZE);
@@ -46,16 +69,22 @@ static size_t used(void (*f)(void)) {
 }
 
 int main(void) {
-    tag_new(record, sizeof record, -20, 3, 1);
-    tag_account_key(record, sizeof record, key, 16);
-    record[TAG_OWNER_KIND_AT] = 1, record[TAG_IDENTITY_HELD_AT] = 1; /* an owner and an identity key of zeros, for the frame */
+    provision();
     size_t base = used(nothing);
-    struct { const char *name; void (*call)(void); } calls[] = {{"tag_account_key", add_key}, {"tag_read", read_nonce}, {"tag_write 0x00", write_parameters},
-        {"tag_read", read_nonce}, {"tag_write 0x01", write_state},
-        {"tag_button", button}, {"tag_elapsed", elapsed}, {"tag_frame", frame}, {"tag_sha256", hash}, {"tag_hmac_sha256", mac}, {"tag_aes128_encrypt", encrypt}, {"tag_aes256_encrypt", encrypt256}};
+    /* a write of this ID is signed before; a ring that is stopped or ends is also written before */
+    enum { NONE = -1, RING = 5 };
+    struct { const char *name; void (*call)(void); int id; } calls[] = {{"tag_account_key", add_key, NONE}, {"tag_read", read_nonce, NONE},
+        {"tag_write 0x00", write_request, 0x00}, {"tag_write 0x01", write_request, 0x01}, {"tag_write 0x02", write_request, 0x02},
+        {"tag_write 0x04", write_request, 0x04}, {"tag_write 0x05", write_request, RING}, {"tag_button", button, RING}, {"tag_elapsed", elapsed, RING},
+        {"tag_frame", frame, NONE}, {"tag_sha256", hash, NONE}, {"tag_hmac_sha256", mac, NONE}, {"tag_aes128_encrypt", encrypt, NONE},
+        {"tag_aes128_decrypt", decrypt, NONE}, {"tag_aes256_encrypt", encrypt256, NONE}};
     /* each once before it is measured: the first call also binds the C library's functions */
     for (size_t i = 0; i < sizeof calls / sizeof *calls; i++) used(calls[i].call);
-    for (size_t i = 0; i < sizeof calls / sizeof *calls; i++) printf("%-20s %zu bytes\n", calls[i].name, used(calls[i].call) - base);
-    printf("the write gave %d answer bytes\n", (int)served);
+    for (size_t i = 0; i < sizeof calls / sizeof *calls; i++) {
+        if (calls[i].id != NONE) sign_request((uint8_t)calls[i].id);
+        if (calls[i].id != NONE && calls[i].call != write_request) write_request();
+        printf("%-20s %zu bytes\n", calls[i].name, used(calls[i].call) - base);
+        if (calls[i].id != NONE && TAG_REFUSED(served)) return printf("refused\n"), 1;
+    }
     return 0;
 }

@@ -1,10 +1,11 @@
 // The same algorithm as the proved crates limbs, field, points and curves, in Rust without proofs: limbs of 32 bits over any width,
-// Montgomery's product, Jacobian coordinates with mixed addition, one inversion. Reads and prints as curve_vectors does, for speed.sh.
+// Montgomery's product, Jacobian coordinates with mixed addition, one inversion. Reads and prints as curve_vectors does, for speed.sh;
+// compare/speed takes the multiple of 0x01 from here.
 use std::io::{Read, Write};
 
-type Form = [u32; 8];
+pub type Form = [u32; 8];
 
-struct Curve {
+pub struct Curve {
     width: usize,
     p: Form,
     inv: u32,
@@ -18,7 +19,7 @@ struct Curve {
     size: usize,
 }
 
-const SECP160R1: Curve = Curve {
+pub const SECP160R1: Curve = Curve {
     width: 5,
     p: [0x7fffffff, 0xffffffff, 0xffffffff, 0xffffffff, 0xffffffff, 0, 0, 0],
     inv: 0x80000001,
@@ -205,7 +206,7 @@ fn add(j: Jacobian, x: Form, y: Form, one: Form, m: &[u32], inv: u32) -> Jacobia
     Jacobian { x: next, y: side, z: product(h, j.z, m, inv) }
 }
 
-fn times_base(c: &Curve, number: [u8; 32]) -> (Form, Form) {
+pub fn times_base(c: &Curve, number: [u8; 32]) -> (Form, Form) {
     let (w, k) = (c.width, c.span);
     let (m, n, inv) = (&c.p[..w], &c.n[..k], c.inv);
     let mut r = [0; 8];
