@@ -32,8 +32,9 @@ use Rattle.authentication.specs.Judgement.{accepts, tagged, usedKey, signedByOw
 use Rattle.account_keys.specs.Order.{keyUsed}
 use Rattle.account_reads.specs.Reads.{afterUse, ownedBy, readParameters, readState}
 use Rattle.provisioning.specs.Provisioning.{awaiting, cleared, setKey, mayReplace, clearKey, recoverKey}
-use Rattle.ringing.specs.declared.sounding.Decision.{Decision}
-use Rattle.ringing.specs.Ringing.{skips, heldVolume, askedTimeout, ringDecision, ring, rung, readSound}
+use Rattle.ring_values.specs.declared.Decision.{Decision}
+use Rattle.ring_values.specs.RingValues.{skips, heldVolume, askedTimeout, ringDecision}
+use Rattle.ringing.specs.Ringing.{ring, rung, readSound}
 use Rattle.ringing.specs.Protecting.{protect, unprotect}
 use Rattle.requests.specs.Write.{byId, needsKey}
 use Rattle.nonces.specs.Nonces.{issuedNonces, nonceFits, withIssued}

@@ -2,8 +2,9 @@
 use mathlib.Core.Path.{refl}
 use Rattle.unit.specs.WellFormed.{settingsLegal}
 use Rattle.laws.specs.Bytes.{number, numberAfter, bigEndian}
-use Rattle.ringing.specs.Ringing.{ring, ringDecision, rung, ringLegal}
-use Rattle.own_calls.specs.Own.{newUnit}
+use Rattle.ring_values.specs.RingValues.{ringDecision, ringLegal}
+use Rattle.ringing.specs.Ringing.{ring, rung}
+use Rattle.settings_calls.specs.Settings.{newUnit}
 use Rattle.time.specs.Time.{clockOn, ringOn, oneTenth, afterTenth, tenths}
 use Rattle.demanded_answers.specs.Edges.{table, Edges}
 

@@ -15,8 +15,9 @@ use Rattle.unit.specs.Change.{fresh, withSound, withClock, withProtection}
 use Rattle.account_reads.specs.Reads.{wireByte}
 use Rattle.laws.specs.Bytes.{bigEndian}
 use Rattle.authentication.specs.Judgement.{Judgement, accepts, rejects}
-use Rattle.ringing.specs.Ringing.{ring, ringMask}
-use Rattle.own_calls.specs.Own.{newUnit}
+use Rattle.ring_values.specs.RingValues.{ringMask}
+use Rattle.ringing.specs.Ringing.{ring}
+use Rattle.settings_calls.specs.Settings.{newUnit}
 use Rattle.time.specs.Time.{tenths, oneTenth}
 use Rattle.frame.specs.Frame.{flagsBeforeXor}
 use Rattle.demanded_answers.specs.Accepted.{ringable}

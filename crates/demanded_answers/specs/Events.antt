@@ -15,7 +15,7 @@ use Rattle.unit.specs.declared.Owner.{Owner}
 use Rattle.unit.specs.declared.Sound.{Sound}
 use Rattle.unit.specs.declared.Protection.{Protection}
 use Rattle.unit.specs.WellFormed.{wellFormed}
-use Rattle.own_calls.specs.Own.{newUnit}
+use Rattle.settings_calls.specs.Settings.{newUnit}
 use Rattle.tag.specs.Calls.{Call, button, accountKey, disconnect, frame, calls, waits}
 use Rattle.demanded_answers.specs.History.{step}
 use Rattle.demanded_answers.specs.Spelled.{keyAtPlace, AllBut, Part, clock, accounts, identity, waiting, sound, ringNonce, consent}

@@ -20,14 +20,15 @@ use Rattle.unit.specs.Outcome.{Outcome, formed, answering}
 use Rattle.authentication.specs.Judgement.{Judgement, accepts, rejects, under, usedKey, signedByOwner, concluded}
 use Rattle.account_reads.specs.Reads.{readParameters, readState}
 use Rattle.provisioning.specs.Provisioning.{setKey, mayReplace, clearKey, cleared, recoverKey}
-use Rattle.ringing.specs.declared.sounding.Decision.{Decision}
+use Rattle.ring_values.specs.declared.Decision.{Decision}
 use Rattle.ringing.specs.Ringing.{ring, rung, readSound}
 use Rattle.ringing.specs.Protecting.{protect, unprotect}
 use Rattle.requests.specs.Write.{byId, judged, written}
 use Rattle.time.specs.Time.{clockOn, endsNext, soundOn, ringOn, oneTenth, timeoutNotice, afterTenth, tenths}
 use Rattle.nonces.specs.Nonces.{nonceFits}
 use Rattle.advertising.specs.Showing.{showing}
-use Rattle.own_calls.specs.Own.{issuing, pressed, charged, keeping}
+use Rattle.own_calls.specs.Own.{issuing, pressed, keeping}
+use Rattle.settings_calls.specs.Settings.{charged}
 use Rattle.tag.specs.Calls.{Call, read, write, button, pairing, battery, accountKey, disconnect, frame, own, Act, calls, waits}
 use Rattle.demanded_answers.specs.History.{step}
 use Rattle.demanded_time.specs.Time.{World, called, slept, ran, runs}

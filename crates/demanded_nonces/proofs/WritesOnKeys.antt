@@ -26,8 +26,9 @@ use Rattle.account_keys.proofs.Order.{place-found, key-owned}
 use Rattle.authentication.specs.Judgement.{Judgement, accepts, rejects, answered, under, usedKey, signedByOwner, tagged, proves, lastNonce, concluded}
 use Rattle.account_reads.specs.Reads.{readParameters, readState, afterUse, ownedBy}
 use Rattle.provisioning.specs.Provisioning.{setKey, mayReplace, awaiting, clearKey, cleared, recoverKey}
-use Rattle.ringing.specs.declared.sounding.Decision.{Decision}
-use Rattle.ringing.specs.Ringing.{skips, ringLegal, ring, rung, readSound}
+use Rattle.ring_values.specs.declared.Decision.{Decision}
+use Rattle.ring_values.specs.RingValues.{skips, ringLegal}
+use Rattle.ringing.specs.Ringing.{ring, rung, readSound}
 use Rattle.ringing.specs.Protecting.{flagOf, protect, unprotect}
 use Rattle.requests.specs.Write.{byId, keyThere, judged, written}
 use Rattle.tag.specs.Calls.{Written, write, own, calls}

@@ -27,8 +27,9 @@ use Rattle.unit.proofs.Kept.{spent-kept}
 use Rattle.authentication.specs.Judgement.{Judgement, accepts, rejects, under, usedKey, onlyIf, signedByOwner, tagged, proves, lastNonce, concluded}
 use Rattle.account_reads.specs.Reads.{readParameters, readState}
 use Rattle.provisioning.specs.Provisioning.{setKey, mayReplace, clearKey, cleared, recoverKey}
-use Rattle.ringing.specs.declared.sounding.Decision.{Decision}
-use Rattle.ringing.specs.Ringing.{skips, ringLegal, ringMask, heldVolume, askedTimeout, reached, outOfReach, stopDecision, ringDecision, ring, rung, soundState as soundBytes, readSound}
+use Rattle.ring_values.specs.declared.Decision.{Decision}
+use Rattle.ring_values.specs.RingValues.{skips, ringLegal, ringMask, heldVolume, askedTimeout, reached, outOfReach, stopDecision, ringDecision, soundState as soundBytes}
+use Rattle.ringing.specs.Ringing.{ring, rung, readSound}
 use Rattle.ringing.specs.Protecting.{flagOf, protect, unprotect}
 use Rattle.requests.specs.Write.{byId, keyThere, judged, written}
 use Rattle.tag.specs.Calls.{Written, own}

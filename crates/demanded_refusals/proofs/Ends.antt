@@ -23,13 +23,14 @@ use Rattle.unit.proofs.Lines.{lines}
 use Rattle.authentication.specs.Judgement.{Judgement, accepts, rejects, under, concluded}
 use Rattle.account_reads.specs.Reads.{readParameters, readState}
 use Rattle.provisioning.specs.Provisioning.{setKey, clearKey, recoverKey}
-use Rattle.ringing.specs.declared.sounding.Decision.{Decision}
+use Rattle.ring_values.specs.declared.Decision.{Decision}
 use Rattle.ringing.specs.Ringing.{ring, rung, readSound}
 use Rattle.ringing.specs.Protecting.{protect, unprotect}
 use Rattle.requests.specs.Write.{byId, judged, written}
 use Rattle.time.specs.Time.{tenths, afterTenth, endsNext, oneTenth, timeoutNotice}
 use Rattle.advertising.specs.Showing.{showing}
-use Rattle.own_calls.specs.Own.{issuing, pressed, charged, keeping, disconnected, newUnit}
+use Rattle.own_calls.specs.Own.{issuing, pressed, keeping, disconnected}
+use Rattle.settings_calls.specs.Settings.{charged, newUnit}
 use Rattle.tag.specs.Calls.{Written, read, write, button, pairing, battery, accountKey, disconnect, frame, own, Act, calls, waits}
 use Rattle.demanded_answers.specs.History.{step}
 use Rattle.demanded_refusals.specs.Ends.{Spending, Plain, Ended, OnlyWrites, Made, Demand1, notAuthenticated, invalidValue, noConsent, outOfRange, notWellFormed, wrongNonce, wrongAccountKey, noFrame, noRoom, withAnswer, refusedSpent, refusedSame, made, none as notMade}

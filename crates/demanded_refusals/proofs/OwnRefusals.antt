@@ -26,7 +26,8 @@ use Rattle.requests.specs.Write.{written}
 use Rattle.nonces.specs.Nonces.{issuedNonces, nonceFits}
 use Rattle.nonces.proofs.Lines.{issued-count}
 use Rattle.advertising.specs.Showing.{showing}
-use Rattle.own_calls.specs.Own.{issuing, pressed, charged, keeping, disconnected}
+use Rattle.own_calls.specs.Own.{issuing, pressed, keeping, disconnected}
+use Rattle.settings_calls.specs.Settings.{charged}
 use Rattle.tag.specs.Calls.{Written, read, write, button, pairing, battery, accountKey, disconnect, frame, own as ownCall, Act, calls, waits}
 use Rattle.demanded_answers.specs.History.{step}
 use Rattle.demanded_answers.specs.Spelled.{keyAtPlace, nonceAtPlace}

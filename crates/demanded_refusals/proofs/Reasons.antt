@@ -24,8 +24,9 @@ use Rattle.unit.proofs.Lines.{held-count}
 use Rattle.authentication.specs.Judgement.{Judgement, accepts, rejects, under, onlyIf, tagged, proves, usedKey, signedByOwner}
 use Rattle.account_reads.specs.Reads.{readParameters, readState}
 use Rattle.provisioning.specs.Provisioning.{mayReplace, setKey, clearKey, recoverKey}
-use Rattle.ringing.specs.declared.sounding.Decision.{Decision}
-use Rattle.ringing.specs.Ringing.{skips, ringLegal, rung, ring, readSound}
+use Rattle.ring_values.specs.declared.Decision.{Decision}
+use Rattle.ring_values.specs.RingValues.{skips, ringLegal}
+use Rattle.ringing.specs.Ringing.{rung, ring, readSound}
 use Rattle.ringing.specs.Protecting.{protect, unprotect}
 use Rattle.requests.specs.Write.{byId, keyThere, judged}
 use Rattle.demanded_answers.specs.Spelled.{keyFrom, proofFrom, tagFrom, keyAtPlace, OwnedWith}

@@ -18,7 +18,7 @@ use Rattle.unit.specs.WellFormed.{wellFormed, settingsLegal}
 use Rattle.unit.specs.Change.{noUnit}
 use Rattle.unit.specs.Outcome.{Outcome, refusing}
 use Rattle.unit.proofs.Lines.{SettingsLines, settings-lines, settings-legal}
-use Rattle.own_calls.specs.Own.{newUnit}
+use Rattle.settings_calls.specs.Settings.{newUnit}
 use Rattle.tag.specs.Calls.{Act}
 use Rattle.demanded_refusals.specs.Ends.{Spending, Plain, Ended, notAuthenticated, invalidValue, noConsent, outOfRange, notWellFormed as plainNotWellFormed, wrongNonce, wrongAccountKey, noFrame, noRoom, withAnswer, refusedSpent, refusedSame}
 use Rattle.demanded_answers.specs.History.{step}

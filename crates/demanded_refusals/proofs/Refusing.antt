@@ -22,7 +22,8 @@ use Rattle.unit.proofs.Lines.{held-count}
 use Rattle.authentication.specs.Judgement.{Judgement, rejects, under, tagged, proves, usedKey, signedByOwner}
 use Rattle.account_reads.specs.Reads.{readParameters, readState}
 use Rattle.provisioning.specs.Provisioning.{mayReplace, setKey, clearKey, recoverKey}
-use Rattle.ringing.specs.Ringing.{skips, ring, readSound}
+use Rattle.ring_values.specs.RingValues.{skips}
+use Rattle.ringing.specs.Ringing.{ring, readSound}
 use Rattle.ringing.specs.Protecting.{protect, unprotect}
 use Rattle.requests.specs.Write.{byId, judged}
 use Rattle.demanded_answers.specs.Spelled.{keyFrom, proofFrom, tagFrom, keyAtPlace, OwnedWith}

@@ -12,7 +12,7 @@ use Rattle.laws.specs.Bytes.{number, numberAfter}
 use Rattle.laws.proofs.Flags.{true-or-false, and-left, and-right, both, or-cases, or-left, or-right, clash, fails}
 use Rattle.unit.specs.declared.Settings.{Settings}
 use Rattle.unit.specs.Ringable.{inside}
-use Rattle.ringing.specs.Ringing.{askedTimeout, ringMask, allOfNone, ringLegal}
+use Rattle.ring_values.specs.RingValues.{askedTimeout, ringMask, allOfNone, ringLegal}
 use Rattle.demanded_refusals.specs.Refused.{IllegalRing, outside, nothing, tooLoud, noTime, tooLong}
 use Rattle.unit.proofs.Masks.{inside-below, below-inside}
 use Rattle.demanded_answers.proofs.MaskBits.{no-bit, bit-from}

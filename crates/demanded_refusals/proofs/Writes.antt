@@ -30,8 +30,9 @@ use Rattle.unit.proofs.Kept.{fresh-formed, clock-kept, battery-kept, pairing-ke
 use Rattle.authentication.specs.Judgement.{Judgement, accepts, rejects, lastNonce, tagged, usedKey, onlyIf, signedByOwner, under, concluded}
 use Rattle.account_reads.specs.Reads.{readParameters, readState, claimed, ownedBy, afterUse}
 use Rattle.provisioning.specs.Provisioning.{setKey, clearKey, recoverKey, mayReplace, awaiting, cleared}
-use Rattle.ringing.specs.declared.sounding.Decision.{Decision}
-use Rattle.ringing.specs.Ringing.{ring, rung, readSound, skips, ringLegal, ringMask, reached, outOfReach, stopDecision, ringDecision, allOfNone, askedVolume, askedTimeout, heldVolume}
+use Rattle.ring_values.specs.declared.Decision.{Decision}
+use Rattle.ring_values.specs.RingValues.{skips, ringLegal, ringMask, reached, outOfReach, stopDecision, ringDecision, allOfNone, askedVolume, askedTimeout, heldVolume}
+use Rattle.ringing.specs.Ringing.{ring, rung, readSound}
 use Rattle.ringing.specs.Protecting.{protect, unprotect}
 use Rattle.requests.specs.Write.{byId, keyThere, judged, written}
 use Rattle.account_keys.proofs.Order.{followed-owned}

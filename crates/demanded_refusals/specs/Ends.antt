@@ -13,7 +13,7 @@ use Rattle.unit.specs.declared.TagUnit.{TagUnit}
 use Rattle.unit.specs.Change.{spent, fresh, noUnit}
 use Rattle.unit.specs.WellFormed.{wellFormed}
 use Rattle.unit.specs.Outcome.{Outcome}
-use Rattle.own_calls.specs.Own.{newUnit}
+use Rattle.settings_calls.specs.Settings.{newUnit}
 use Rattle.tag.specs.Calls.{Written, write, Act, calls}
 use Rattle.demanded_answers.specs.History.{step}
 

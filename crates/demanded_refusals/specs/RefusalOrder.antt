@@ -11,7 +11,7 @@ use lib.Signed.{_<ℤ_}
 use Rattle.laws.specs.Answer.{refuses}
 use Rattle.unit.specs.declared.TagUnit.{TagUnit}
 use Rattle.unit.specs.WellFormed.{wellFormed}
-use Rattle.own_calls.specs.Own.{newUnit}
+use Rattle.settings_calls.specs.Settings.{newUnit}
 use Rattle.tag.specs.Calls.{Written, read, write, button, battery, accountKey, frame, Act, calls, waits}
 use Rattle.demanded_answers.specs.History.{step}
 use Rattle.demanded_answers.specs.Spelled.{bit, NoBitOutside, nonceAtPlace, OnlySpends}

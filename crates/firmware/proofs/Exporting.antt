@@ -34,7 +34,8 @@ use Rattle.time.specs.Time.{tenths}
 use Rattle.time.specs.Passing.{Passes}
 use Rattle.nonces.specs.Nonces.{nonceFits}
 use Rattle.advertising.specs.Showing.{showing}
-use Rattle.own_calls.specs.Own.{issuing, pressed, charged, keeping, disconnected, newUnit}
+use Rattle.own_calls.specs.Own.{issuing, pressed, keeping, disconnected}
+use Rattle.settings_calls.specs.Settings.{charged, newUnit}
 use Rattle.tag.specs.Calls.{Call, read, write, button, pairing, battery, accountKey, disconnect, frame, own, lends, guarded, call, elapsed}
 use Rattle.stored.specs.Record.{decoded, encoded, recordSize}
 use Rattle.stored.proofs.RoundTrip.{other-length, noUnit-malformed}

@@ -6,7 +6,7 @@ ghost use lib.Dec.{eqb};
 ghost use lib.ListN.{length};
 ghost use Rattle.primitive_calls.specs.Calls.{hashed, authenticated, encrypted, decrypted, encrypted256};
 ghost use Rattle.desk.specs.Exported.{partsRead, partsReadWithR, ExportsReading};
-ghost use Rattle.own_calls.specs.Own.{newUnit};
+ghost use Rattle.settings_calls.specs.Settings.{newUnit};
 ghost use Rattle.tag.specs.Calls.{call, elapsed as elapsedOf};
 ghost use Rattle.tag.specs.Calls as of;
 ghost use Rattle.stored.specs.Record.{decoded};

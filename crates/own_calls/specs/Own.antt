@@ -1,27 +1,20 @@
--- What each call does on a unit that passed the guards: its own refusals, in order, and what becomes of the unit.
+-- What a read, a press, an account key and the end of a connection do on a unit that passed the guards: their own refusals, in order, and what becomes
+-- of the unit.
 use Prim.Native.Nat.{ℕ}
 use mathlib.Core.Bool.{Bool, true, cond, not, _&&_}
 use mathlib.Core.List.{List, [], _∷_}
-use lib.Dec.{eqb, leb}
-use lib.IntN.{ℤ}
+use lib.Dec.{eqb}
 use lib.ListN.{length}
-use Rattle.sizes.specs.Sizes.{accountKeySize, highestBattery, fullConsent}
+use Rattle.sizes.specs.Sizes.{accountKeySize, fullConsent}
 use Rattle.tables.specs.Rows.{among}
 use Rattle.account_keys.specs.Order.{keyAdded}
 use Rattle.nonces.specs.Nonces.{nonceFits, withIssued}
 use Rattle.unit.specs.declared.TagUnit.{TagUnit}
-use Rattle.unit.specs.declared.Settings.{Settings}
 use Rattle.unit.specs.declared.Sound.{Sound}
-use Rattle.unit.specs.WellFormed.{heldKeys, settingsLegal}
-use Rattle.unit.specs.Change.{fresh, noUnit, silenced, withNonces, withAccounts, withConsent, withPairing, withBattery, withIdentity, withWaiting, noIdentity, keyInForce}
+use Rattle.unit.specs.WellFormed.{heldKeys}
+use Rattle.unit.specs.Change.{silenced, withNonces, withAccounts, withConsent, withIdentity, withWaiting, noIdentity, keyInForce}
 use Rattle.unit.specs.Outcome.{Outcome, giving, refusing}
 use Rattle.wire.specs.Signing.{version, stopNotice, byButton}
-
--- A new unit: "settings .. out of range": 1; "A new unit checks only 1"
-unfoldable pub newUnit : ℤ → ℕ → ℕ → Outcome
-newUnit power components selectable =
-    let s : Settings = record { power = power; components = components; selectable = selectable } in
-    cond (settingsLegal s) (giving [] (fresh s)) (refusing 1 noUnit)
 
 -- Read: "gives 0x01 and the lent nonce (9 bytes) and makes that nonce live, replacing any other"; 3 for a nonce that doesn't fit
 unfoldable pub issuing : List ℕ → TagUnit → Outcome
@@ -35,10 +28,6 @@ issuing nonce u =
 unfoldable pub pressed : Sound → TagUnit → Outcome
 pressed Sound.Silent u = giving [] (withConsent fullConsent u)
 pressed (Sound.Ringing mask volume left) u = giving (stopNotice (keyInForce u) (u .«ring_nonce») byButton) (silenced u)
-
--- "1: .. battery out of range"
-unfoldable pub charged : ℕ → TagUnit → Outcome
-charged level u = cond (leb level highestBattery) (giving [] (withBattery level u)) (refusing 1 u)
 
 -- "Refusal 4 then remains only for a wrong size"; "Adding a key already held succeeds and changes nothing, even when full"; a new one "counts as use"
 unfoldable pub keeping : List ℕ → TagUnit → Outcome

@@ -1,8 +1,6 @@
-// What each call of the tag does on a unit that passed the guards, room and a well-formed record: its own refusals, and the unit after it.
+// What a read, a press, an account key and the end of a connection do on a unit that passed the guards, room and a well-formed record: their own
+// refusals, and the unit after them.
 pub mod accounts;
-pub mod battery;
 pub mod connection;
 pub mod nonce;
-pub mod pairing;
 pub mod press;
-pub mod settings;

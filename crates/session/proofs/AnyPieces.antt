@@ -11,7 +11,7 @@ use borrow.Author.Tests.{ltb-true, ltb-false, lt-leb, ne-eqb}
 use Rattle.laws.specs.Answer.{Result, gives, refuses}
 use Rattle.unit.specs.declared.TagUnit.{TagUnit}
 use Rattle.unit.specs.Outcome.{Outcome}
-use Rattle.own_calls.specs.Own.{newUnit}
+use Rattle.settings_calls.specs.Settings.{newUnit}
 use Rattle.notation.specs.Text.{newline}
 use Rattle.session.specs.Replay.{judged, done, run, lines, File, mayEnd, longestLine, replay, begun, onto}
 use Rattle.session.specs.Feeding.{State, reading, ended, Fed, fed, fedTo, byte, closed, finish, first, inPieces, whole, AnyPieces, beginning}

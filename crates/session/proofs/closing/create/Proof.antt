@@ -9,7 +9,7 @@ use native.Mathlib.Numerals.{add-one}
 use Rattle.unit.specs.Outcome.{Completes}
 use Rattle.unit.specs.declared.Reply.{Reply}
 use Rattle.unit.specs.Refusals.{refusalNumber}
-use Rattle.own_calls.specs.Own.{newUnit}
+use Rattle.settings_calls.specs.Settings.{newUnit}
 use Rattle.session.specs.Feeding.{closed}
 use Rattle.session.proofs.ClosedLines.{closes-fed, begunBy, begins-by}
 use Rattle.notation.proofs.Placed.{puts-nothing}
