@@ -1,7 +1,7 @@
 -- The refusals of every call, in their order: the two guards, then the call's own; and the unit afterwards, by demand 1. A new unit has only
 -- its settings to be judged by.
 use Prim.Native.Nat.{ℕ, _≤_, _<_}
-use mathlib.Core.Path.{_≡_, sym, ap, _∙_}
+use mathlib.Core.Path.{_≡_, refl, sym, ap, _∙_}
 use mathlib.Core.Bool.{true, false}
 use mathlib.Core.List.{[]}
 use mathlib.Core.Logic.{_⊎_, inl, inr}
@@ -14,7 +14,11 @@ use Rattle.laws.specs.Answer.{gives, refuses}
 use Rattle.laws.proofs.Flags.{true-or-false, fails}
 use Rattle.unit.specs.declared.TagUnit.{TagUnit}
 use Rattle.unit.specs.declared.Settings.{Settings}
+use Rattle.unit.specs.declared.Refusal as code
+use Rattle.unit.specs.Refusals.{refusalNumber}
 use Rattle.unit.specs.WellFormed.{wellFormed, settingsLegal}
+use Rattle.sleep.specs.declared.Sleep.{Sleep}
+use Rattle.sleep.specs.Sleep.{Sleeps}
 use Rattle.unit.specs.Change.{noUnit}
 use Rattle.unit.specs.Outcome.{Outcome, refusing}
 use Rattle.unit.proofs.Lines.{SettingsLines, settings-lines, settings-legal}
@@ -140,6 +144,17 @@ module _ (power : ℤ) (components selectable : ℕ) where
           (is, o)
       go (inr h) r = let z : _≡_ {A = ℕ} 0 1 = cc (was-made h) in absurd (omega arith)
 
+-- How long it may sleep: the promise gives a number or refusal 2, by the record alone
+sleep-refused : (u : TagUnit) (s : Sleep) → Sleeps u s → wellFormed u ≡ false → (r : code.Refusal) × (s ≡ Sleep.Refused r) × (refusalNumber r ≡ 2)
+sleep-refused u s h e = (code.Refusal.NotWellFormed, h .refused e, refl)
+
+sleep-refused-only : (u : TagUnit) (s : Sleep) (r : code.Refusal) → Sleeps u s → s ≡ Sleep.Refused r → wellFormed u ≡ false
+sleep-refused-only u s r h e = go (true-or-false (wellFormed u))
+  where
+    go : (wellFormed u ≡ true) ⊎ (wellFormed u ≡ false) → wellFormed u ≡ false
+    go (inl right) = let is = h .until right .1 in let z : _≡_ {A = ℕ} 0 1 = cc in absurd (omega arith)
+    go (inr wrong) = wrong
+
 pub refusal-order : RefusalOrder
 refusal-order =
     record {
@@ -151,4 +166,6 @@ refusal-order =
       newUnitsOnlyThen = made-unless;
       noneMade = λ power components selectable o.
           rw (not-made power components selectable (out-of-range power components selectable o)) no-unit;
+      sleepRefused = sleep-refused;
+      sleepRefusedOnlyThen = sleep-refused-only;
     }

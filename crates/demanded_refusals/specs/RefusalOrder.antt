@@ -10,7 +10,11 @@ use lib.IntN.{ℤ, pos, negℤ}
 use lib.Signed.{_<ℤ_}
 use Rattle.laws.specs.Answer.{refuses}
 use Rattle.unit.specs.declared.TagUnit.{TagUnit}
+use Rattle.unit.specs.declared.Refusal as code
+use Rattle.unit.specs.Refusals.{refusalNumber}
 use Rattle.unit.specs.WellFormed.{wellFormed}
+use Rattle.sleep.specs.declared.Sleep.{Sleep}
+use Rattle.sleep.specs.Sleep.{Sleeps}
 use Rattle.settings_calls.specs.Settings.{newUnit}
 use Rattle.tag.specs.Calls.{Written, read, write, button, battery, accountKey, frame, Act, calls, waits}
 use Rattle.demanded_answers.specs.History.{step}
@@ -71,3 +75,6 @@ pub record RefusalOrder : Type 0 where
       → (n ≡ 1) × OutOfRange power components selectable
   pub noneMade : (power : ℤ) (components selectable : ℕ) → OutOfRange power components selectable
       → wellFormed (newUnit power components selectable .unit) ≡ false
+  -- how long it may sleep: 2 on a unit that is not well formed, and only there
+  pub sleepRefused : (u : TagUnit) (s : Sleep) → Sleeps u s → wellFormed u ≡ false → (r : code.Refusal) × (s ≡ Sleep.Refused r) × (refusalNumber r ≡ 2)
+  pub sleepRefusedOnlyThen : (u : TagUnit) (s : Sleep) (r : code.Refusal) → Sleeps u s → s ≡ Sleep.Refused r → wellFormed u ≡ false
