@@ -78,7 +78,7 @@ def main():
     parts = numbers(read("crates/desk/specs/Exported.antt"))
     wanted.update((header_name(n), value(n, {**sizes, **parts})) for n in parts)
     wanted["TAG_WRONG_BYTE"] = int(numbers(read("crates/frame_reader/specs/Reader.antt"))["wrongByte"])
-    calls = read("crates/primitive_calls/specs/Calls.antt")
+    calls = read("crates/lent_answer/specs/Ends.antt")
     wanted["TAG_LONGEST_MESSAGE"] = value("longestMessage", sizes)
     wanted["TAG_WRONG_SIZE"] = int(re.search(r"^endNumber Ending\.WrongSize = (\d+)$", calls, re.M)[1])
     for name, n in re.findall(r"^refusalNumber (\w+) = (0x[0-9a-fA-F]+|\d+)$", read("crates/unit/specs/Refusals.antt"), re.M):

@@ -27,7 +27,9 @@ from tracing.sentences import CALLS, ROOT, fail, failures, runs, sentences, word
 OUTPUT = ROOT / "docs/TRACE.md"
 PUBLIC = {
     "tag": r"^pub fn (\w+)",
-    "primitive_calls": r"^pub fn (\w+)\((?:[^{]*?)\) -> Ending",
+    "hash_calls": r"^pub fn (\w+)",
+    "cipher_calls": r"^pub fn (\w+)",
+    "session_ends": r"^pub fn (\w+)",
     "replay": r"^pub fn (\w+)",
     "firmware": r'^pub extern "C" fn (\w+)',
 }

@@ -14,9 +14,9 @@ RECORD, STRUCT = ["byte box, record", "best, record"], ["byte box, struct", "bes
 PARTS = {
     "compression": r"compression::|main::plain::sha256::compress",
     "AES": r"(cipher|rounds|full_rounds|steps|key_schedule|inverse_keys|substitution|columns|column_tables|words)::|primitives::(encrypt|decrypt)|main::plain::aes|<main::plain::forms.*crypt$|core::array",
-    "rest of the hash": r"(hash|hmac|padding|message_schedule)::|primitives::|main::plain::sha256|<?main::plain::forms",
+    "rest of the hash": r"(hash|hmac|padding|message_blocks|message_schedule)::|primitives::|main::plain::sha256|<?main::plain::forms",
     "record": r"stored::|record_|main::plain::record|main::plain::(on|read_on|write_on)_record",
-    "well-formedness": r"unit::well_formed|tables::|nonces::|octets::all_zero|main::plain::unit::Unit::well_formed",
+    "well-formedness": r"well_formed::|tables::|nonces::|octets::all_zero|main::plain::unit::Unit::well_formed",
     "copies": r"_*mem(cpy|set|cmp|move)",
 }
 REST = "the calls themselves"

@@ -7,6 +7,8 @@ use lib.ListN.{take, drop}
 use Rattle.sizes.specs.Sizes.{accountKeySize, mostKeys}
 use Rattle.tables.specs.Rows.{placeOf}
 use Rattle.unit.specs.WellFormed.{heldKeys}
+use Rattle.unit.specs.Change.{withAccounts}
+use Rattle.unit.specs.declared.TagUnit.{TagUnit}
 use Rattle.unit.specs.declared.Accounts.{Accounts}
 use Rattle.unit.specs.declared.Owner.{Owner}
 
@@ -24,6 +26,10 @@ abbrev pub keyUsed : List ℕ → Accounts → Accounts
 keyUsed key a =
     let place = placeOf key (heldKeys a) in
     record { count = a .count; owner = followed place (a .owner); keys = keyFirst place key (a .keys) }
+
+-- "least recently used in an accepted 0x00, 0x01 or 0x02": each of them uses a key
+abbrev pub afterUse : List ℕ → TagUnit → TagUnit
+afterUse key u = withAccounts (keyUsed key (u .accounts)) u
 
 -- "drop the one least recently used .., but never the owner": of a full table the last, or the one before it where the last is the owner's
 abbrev pub leastUsed : Owner → ℕ

@@ -1,4 +1,4 @@
--- What the functions of this crate and the handlers of the nine requests promise, over the types of the code.
+-- What `signers`, `answering` and the handlers of the nine requests promise, over the types of the code.
 use Prim.Native.Nat.{ℕ, _≤_, _<_, _+_}
 use mathlib.Core.Path.{_≡_}
 use mathlib.Core.Bool.{true}

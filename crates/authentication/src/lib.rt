@@ -1,5 +1,5 @@
-// Which key a request was signed with, and the verdict on a request: the unit after it, the key that was used and the data of its answer.
-// One place signs and writes every answer. A key is made ready once, for the request's tag and for its answer's.
+// The verdict on a request: the unit after it, the key that was used and the data of its answer; and whether a key made a request's tag. A key
+// is made ready once, for the request's tag and for its answer's. Which account key signed is found in `signers`; `answering` signs the answer.
 ghost use mathlib.Core.Path.{_≡_};
 ghost use mathlib.Core.List.{List};
 ghost use Prim.Native.Nat.{ℕ, _≤_};
@@ -16,8 +16,6 @@ use unit::TagUnit;
 use wire::Head;
 use wire::signing;
 
-pub mod account;
-pub mod answering;
 pub mod identity;
 
 // A place in the key table, if there is one.

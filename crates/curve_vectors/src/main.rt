@@ -9,11 +9,11 @@
 // OpenSSL's curve (compare/curves/compare.py).
 use curves::secp160r1::secp160r1;
 use curves::secp256r1::secp256r1;
+use hex_reading::Octets;
+use hex_reading::unhex;
 use libc::STDIN_FILENO;
 use libc::STDOUT_FILENO;
 use notation::text::hex_line;
-use reading::Octets;
-use reading::unhex;
 
 // Prints r and x.
 fn answer(r: &[u8], x: &[u8]) {

@@ -29,17 +29,22 @@ use Rattle.unit.specs.Change.{spent, silenced, withNonces, withAccounts, withSo
 use Rattle.unit.specs.Outcome.{giving}
 use Rattle.unit.proofs.Lines.{lines, held-count, owner-held}
 use Rattle.authentication.specs.Judgement.{accepts, tagged, usedKey, signedByOwner}
-use Rattle.account_keys.specs.Order.{keyUsed}
-use Rattle.account_reads.specs.Reads.{afterUse, ownedBy, readParameters, readState}
-use Rattle.provisioning.specs.Provisioning.{awaiting, cleared, setKey, mayReplace, clearKey, recoverKey}
-use Rattle.ring_values.specs.declared.Decision.{Decision}
-use Rattle.ring_values.specs.RingValues.{skips, heldVolume, askedTimeout, ringDecision}
+use Rattle.account_keys.specs.Order.{keyUsed, afterUse}
+use Rattle.state_read.specs.State.{ownedBy, readState}
+use Rattle.parameter_read.specs.Parameters.{readParameters}
+use Rattle.provisioning.specs.Provisioning.{awaiting, setKey, mayReplace}
+use Rattle.clearing.specs.Clearing.{cleared, clearKey}
+use Rattle.recovery.specs.Recovery.{recoverKey}
+use Rattle.ring_decisions.specs.declared.Decision.{Decision}
+use Rattle.ring_values.specs.RingValues.{skips, heldVolume, askedTimeout}
+use Rattle.ring_decisions.specs.Decisions.{ringDecision}
 use Rattle.ringing.specs.Ringing.{ring, rung, readSound}
-use Rattle.ringing.specs.Protecting.{protect, unprotect}
-use Rattle.requests.specs.Write.{byId, needsKey}
+use Rattle.protecting.specs.Protecting.{protect, unprotect}
+use Rattle.handlers.specs.ById.{byId}
+use Rattle.requests.specs.Write.{needsKey}
 use Rattle.nonces.specs.Nonces.{issuedNonces, nonceFits, withIssued}
 use Rattle.nonces.proofs.Lines.{issued-count}
-use Rattle.own_calls.specs.Own.{issuing}
+use Rattle.read_call.specs.Read.{issuing}
 use Rattle.tag.specs.Calls.{read, own, guarded, call, Act, calls, act}
 use Rattle.demanded_answers.specs.History.{step, sends}
 use Rattle.demanded_answers.specs.Spelled.{keyAtPlace, nonceAtPlace, OwnedWith, NonceSpent, OnlySpends}

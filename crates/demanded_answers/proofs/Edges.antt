@@ -2,7 +2,8 @@
 use mathlib.Core.Path.{refl}
 use Rattle.unit.specs.WellFormed.{settingsLegal}
 use Rattle.laws.specs.Bytes.{number, numberAfter, bigEndian}
-use Rattle.ring_values.specs.RingValues.{ringDecision, ringLegal}
+use Rattle.ring_decisions.specs.Decisions.{ringDecision}
+use Rattle.ring_values.specs.RingValues.{ringLegal}
 use Rattle.ringing.specs.Ringing.{ring, rung}
 use Rattle.settings_calls.specs.Settings.{newUnit}
 use Rattle.time.specs.Time.{clockOn, ringOn, oneTenth, afterTenth, tenths}

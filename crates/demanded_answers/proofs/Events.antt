@@ -29,7 +29,8 @@ use Rattle.frame.specs.Frame.{rendered, flagsFor}
 use Rattle.time.specs.Time.{clockOn, endsNext, soundOn, ringOn, oneTenth, timeoutNotice, afterTenth, tenths}
 use Rattle.account_keys.specs.Order.{leastUsed, placeFor, keyAdded}
 use Rattle.advertising.specs.Showing.{protected, showing}
-use Rattle.own_calls.specs.Own.{pressed, keeping, disconnected}
+use Rattle.press_call.specs.Press.{pressed}
+use Rattle.key_calls.specs.Keys.{keeping, disconnected}
 use Rattle.settings_calls.specs.Settings.{charged, newUnit}
 use Rattle.tag.specs.Calls.{button, accountKey, disconnect, frame, own, guarded, call, elapsed, calls, waits, act}
 use Rattle.demanded_answers.specs.History.{step}

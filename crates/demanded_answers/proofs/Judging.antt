@@ -21,7 +21,8 @@ use Rattle.unit.specs.WellFormed.{wellFormed}
 use Rattle.unit.specs.Change.{spent}
 use Rattle.unit.specs.Outcome.{Outcome, formed, answering}
 use Rattle.authentication.specs.Judgement.{Judgement, tagged, concluded}
-use Rattle.requests.specs.Write.{byId, needsKey, judged, written}
+use Rattle.handlers.specs.ById.{byId}
+use Rattle.requests.specs.Write.{needsKey, judged, written}
 use Rattle.tag.specs.Calls.{own, guarded, call, act}
 use Rattle.demanded_answers.specs.History.{step, sends}
 use Rattle.demanded_answers.specs.Spelled.{NoBitOutside}

@@ -9,7 +9,9 @@ use borrow.Author.Tests.{eq-eqb, ne-eqb, le-leb, lt-leb}
 use Rattle.laws.specs.Answer.{Result, gives, refuses}
 use Rattle.laws.proofs.Flags.{both, and-fails-left, and-fails-right}
 use Rattle.primitives.specs.Standards.{SHA256, HMAC, AES128, InvAES128, AES256}
-use Rattle.primitive_calls.specs.Calls.{orRefusal, hashed, authenticated, encrypted, decrypted, encrypted256}
+use Rattle.lent_answer.specs.Ends.{orRefusal}
+use Rattle.hash_calls.specs.Calls.{hashed, authenticated}
+use Rattle.cipher_calls.specs.Calls.{encrypted, decrypted, encrypted256}
 use Rattle.demanded_answers.specs.PrimitiveCalls.{OneBlock, PrimitiveCalls}
 
 right : {b : Bool} {answer : List ℕ} → b ≡ true → orRefusal b answer ≡ gives answer

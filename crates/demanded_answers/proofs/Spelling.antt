@@ -26,7 +26,8 @@ use Rattle.unit.specs.declared.Sound.{Sound}
 use Rattle.unit.specs.Ringable.{inside}
 use Rattle.unit.specs.WellFormed.{wellFormed, heldKeys, ownerKey}
 use Rattle.unit.proofs.Lines.{lines, Lines, held-count, owner-held, ring-held}
-use Rattle.account_reads.specs.Reads.{parameters, wireByte, claimed, isKey}
+use Rattle.parameter_read.specs.Parameters.{parameters, wireByte}
+use Rattle.state_read.specs.State.{claimed, isKey}
 use Rattle.ring_values.specs.RingValues.{ringMask, ringLegal, allOfNone, askedTimeout, soundState}
 use Rattle.demanded_answers.proofs.RecordLines.{key-at}
 use Rattle.demanded_answers.specs.Spelled.{keyAtPlace, OwnedWith}

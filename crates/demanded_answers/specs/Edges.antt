@@ -12,7 +12,7 @@ use Rattle.unit.specs.declared.Sound.{Sound}
 use Rattle.unit.specs.declared.Protection.{Protection}
 use Rattle.sizes.specs.Sizes.{window}
 use Rattle.unit.specs.Change.{fresh, withSound, withClock, withProtection}
-use Rattle.account_reads.specs.Reads.{wireByte}
+use Rattle.parameter_read.specs.Parameters.{wireByte}
 use Rattle.laws.specs.Bytes.{bigEndian}
 use Rattle.authentication.specs.Judgement.{Judgement, accepts, rejects}
 use Rattle.ring_values.specs.RingValues.{ringMask}

@@ -8,7 +8,8 @@ use Rattle.laws.specs.Answer.{gives}
 use Rattle.unit.specs.declared.TagUnit.{TagUnit}
 use Rattle.unit.specs.declared.Protection.{Protection}
 use Rattle.frame.specs.declared.Flags.{Flags}
-use Rattle.frame_reader.specs.Reader.{Parts, reads, wrongByte, wrongSize, readFrame, readFrameWithR}
+use Rattle.frame_reader.specs.Reader.{Parts, reads, wrongByte, readFrame}
+use Rattle.frame_opener.specs.Opener.{wrongSize, readFrameWithR}
 use Rattle.frame_laws.specs.ReadBack.{ReadBack, ReadBackWithR}
 use Rattle.tag.specs.Calls.{frame, calls}
 use Rattle.demanded_answers.specs.EphemeralIdentifier.{identifierOf, cutR}

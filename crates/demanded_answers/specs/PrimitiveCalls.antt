@@ -6,7 +6,8 @@ use mathlib.Core.List.{List}
 use lib.ListN.{length}
 use Rattle.laws.specs.Answer.{Result, gives, refuses}
 use Rattle.primitives.specs.Standards.{SHA256, HMAC, AES128, InvAES128, AES256}
-use Rattle.primitive_calls.specs.Calls.{hashed, authenticated, encrypted, decrypted, encrypted256}
+use Rattle.hash_calls.specs.Calls.{hashed, authenticated}
+use Rattle.cipher_calls.specs.Calls.{encrypted, decrypted, encrypted256}
 
 -- a call of a cipher whose keys have so many bytes, with the lent answer bytes' number last
 pub record OneBlock (call : List ℕ → List ℕ → ℕ → Result) (cipher : List ℕ → List ℕ → List ℕ) (keySize : ℕ) : Type 0 where

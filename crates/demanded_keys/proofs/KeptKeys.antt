@@ -21,7 +21,7 @@ use Rattle.unit.specs.WellFormed.{heldKeys, rowOf, ownerKey, ownerLegal}
 use Rattle.unit.proofs.Lines.{AccountsLines, held-count}
 use Rattle.account_keys.specs.Order.{keyUsed, keyAdded, leastUsed}
 use Rattle.account_keys.proofs.Order.{place-found, key-held, key-owned, room-held, full-held, added-owned}
-use Rattle.account_reads.specs.Reads.{claimed, ownedBy}
+use Rattle.state_read.specs.State.{claimed, ownedBy}
 use Rattle.demanded_keys.specs.KeysByUse.{without, isOwner, firstOthers, kept, ownerAfter}
 use Rattle.demanded_refusals.proofs.KeyUses.{claimed-held, claimed-lines, claimed-legal}
 use Rattle.demanded_keys.proofs.FirstOthers.{others-without, gone, distinct-without, used-first, claimed-first, new-first, room-all, last-goes, next-goes, first-front, first-all}

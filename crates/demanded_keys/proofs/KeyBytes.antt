@@ -20,9 +20,9 @@ use Rattle.unit.specs.Change.{fresh}
 use Rattle.unit.specs.Outcome.{Outcome}
 use Rattle.unit.proofs.Lines.{lines, AccountsLines, key-length, held-count}
 use Rattle.account_keys.specs.Order.{placeFor}
-use Rattle.provisioning.specs.Provisioning.{cleared}
+use Rattle.clearing.specs.Clearing.{cleared}
 use Rattle.nonces.specs.Nonces.{nonceFits}
-use Rattle.own_calls.specs.Own.{issuing}
+use Rattle.read_call.specs.Read.{issuing}
 use Rattle.tag.specs.Calls.{Written, own, Act}
 use Rattle.demanded_answers.specs.History.{step, after, Bytes, OfBytes, AllOfBytes}
 use Rattle.demanded_answers.proofs.Guards.{ownOf, met, Met, barred, passed}

@@ -18,9 +18,9 @@ use Rattle.unit.proofs.Lines.{lines}
 use Rattle.unit.proofs.Kept.{spent-kept}
 use Rattle.account_keys.specs.Order.{keyUsed}
 use Rattle.account_keys.proofs.Order.{key-owned, added-owned}
-use Rattle.provisioning.specs.Provisioning.{cleared}
+use Rattle.clearing.specs.Clearing.{cleared}
 use Rattle.nonces.specs.Nonces.{nonceFits}
-use Rattle.own_calls.specs.Own.{issuing}
+use Rattle.read_call.specs.Read.{issuing}
 use Rattle.tag.specs.Calls.{Written, write, disconnect, own, Act, calls}
 use Rattle.demanded_answers.specs.History.{step, after}
 use Rattle.demanded_nonces.specs.Among.{NoneIn, Accepts, accepts, BringsIn, bringsIn}

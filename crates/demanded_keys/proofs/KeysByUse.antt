@@ -24,10 +24,10 @@ use Rattle.unit.proofs.Lines.{lines, held-count}
 use Rattle.account_keys.specs.Order.{keyUsed, keyAdded}
 use Rattle.account_keys.proofs.Order.{place-found}
 use Rattle.authentication.specs.Judgement.{usedKey, tagged}
-use Rattle.account_reads.specs.Reads.{ownedBy}
-use Rattle.provisioning.specs.Provisioning.{cleared}
+use Rattle.state_read.specs.State.{ownedBy}
+use Rattle.clearing.specs.Clearing.{cleared}
 use Rattle.nonces.specs.Nonces.{nonceFits}
-use Rattle.own_calls.specs.Own.{issuing}
+use Rattle.read_call.specs.Read.{issuing}
 use Rattle.tag.specs.Calls.{Written, read, write, accountKey, disconnect, own, Act, calls}
 use Rattle.demanded_answers.specs.History.{step, after, Succeeds}
 use Rattle.demanded_nonces.specs.Among.{Accepts, accepts}

@@ -22,7 +22,7 @@ use Rattle.unit.specs.declared.Identity.{Identity}
 use Rattle.unit.specs.WellFormed.{wellFormed, ownerKey}
 use Rattle.unit.specs.Change.{fresh, spent}
 use Rattle.authentication.specs.Judgement.{accepts, lastNonce}
-use Rattle.account_reads.specs.Reads.{afterUse}
+use Rattle.account_keys.specs.Order.{afterUse}
 use Rattle.provisioning.specs.Provisioning.{awaiting}
 use Rattle.tag.specs.Calls.{Written, disconnect, Act, calls}
 use Rattle.demanded_answers.specs.History.{step, after, writes, Bytes}

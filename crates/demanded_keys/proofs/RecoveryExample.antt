@@ -25,10 +25,11 @@ use Rattle.unit.specs.Change.{fresh, noAccounts, withAccounts, withNonces, with
 use Rattle.unit.specs.Outcome.{Outcome, giving, formed}
 use Rattle.unit.proofs.Lines.{lines}
 use Rattle.unit.proofs.Kept.{fresh-formed, issued-kept, spent-kept, owner-kept, waiting-kept, consent-kept}
-use Rattle.account_keys.specs.Order.{keyUsed, keyAdded}
-use Rattle.account_reads.specs.Reads.{ownedBy, afterUse}
+use Rattle.account_keys.specs.Order.{keyUsed, keyAdded, afterUse}
+use Rattle.state_read.specs.State.{ownedBy}
 use Rattle.provisioning.specs.Provisioning.{awaiting}
-use Rattle.own_calls.specs.Own.{keeping, pressed, broughtIn, disconnected}
+use Rattle.key_calls.specs.Keys.{keeping, broughtIn, disconnected}
+use Rattle.press_call.specs.Press.{pressed}
 use Rattle.tag.specs.Calls.{read, button, accountKey, disconnect, own, guarded, call, Act, calls, act}
 use Rattle.demanded_answers.specs.History.{step, after, sends, Bytes, AllOfBytes}
 use Rattle.demanded_answers.specs.Spelled.{tagFrom, requestFrom, keyAtPlace, OwnedWith}

@@ -18,16 +18,22 @@ use Rattle.standing.specs.Standing.{currentScalar, currentIdentifier, currentR,
 use Rattle.unit.specs.WellFormed.{wellFormed}
 use Rattle.unit.specs.Outcome.{Outcome, formed, answering}
 use Rattle.authentication.specs.Judgement.{Judgement, accepts, rejects, under, usedKey, signedByOwner, concluded}
-use Rattle.account_reads.specs.Reads.{readParameters, readState}
-use Rattle.provisioning.specs.Provisioning.{setKey, mayReplace, clearKey, cleared, recoverKey}
-use Rattle.ring_values.specs.declared.Decision.{Decision}
+use Rattle.parameter_read.specs.Parameters.{readParameters}
+use Rattle.state_read.specs.State.{readState}
+use Rattle.provisioning.specs.Provisioning.{setKey, mayReplace}
+use Rattle.clearing.specs.Clearing.{clearKey, cleared}
+use Rattle.recovery.specs.Recovery.{recoverKey}
+use Rattle.ring_decisions.specs.declared.Decision.{Decision}
 use Rattle.ringing.specs.Ringing.{ring, rung, readSound}
-use Rattle.ringing.specs.Protecting.{protect, unprotect}
-use Rattle.requests.specs.Write.{byId, judged, written}
+use Rattle.protecting.specs.Protecting.{protect, unprotect}
+use Rattle.handlers.specs.ById.{byId}
+use Rattle.requests.specs.Write.{judged, written}
 use Rattle.time.specs.Time.{clockOn, endsNext, soundOn, ringOn, oneTenth, timeoutNotice, afterTenth, tenths}
 use Rattle.nonces.specs.Nonces.{nonceFits}
 use Rattle.advertising.specs.Showing.{showing}
-use Rattle.own_calls.specs.Own.{issuing, pressed, keeping}
+use Rattle.read_call.specs.Read.{issuing}
+use Rattle.press_call.specs.Press.{pressed}
+use Rattle.key_calls.specs.Keys.{keeping}
 use Rattle.settings_calls.specs.Settings.{charged}
 use Rattle.tag.specs.Calls.{Call, read, write, button, pairing, battery, accountKey, disconnect, frame, own, Act, calls, waits}
 use Rattle.demanded_answers.specs.History.{step}

@@ -16,10 +16,10 @@ use Rattle.unit.specs.Change.{withNonces}
 use Rattle.unit.specs.WellFormed.{wellFormed}
 use Rattle.unit.specs.Outcome.{Outcome, giving, refusing}
 use Rattle.authentication.specs.Judgement.{accepts}
-use Rattle.provisioning.specs.Provisioning.{cleared}
+use Rattle.clearing.specs.Clearing.{cleared}
 use Rattle.requests.specs.Write.{written}
 use Rattle.nonces.specs.Nonces.{nonceFits, withIssued, spentNonces}
-use Rattle.own_calls.specs.Own.{issuing}
+use Rattle.read_call.specs.Read.{issuing}
 use Rattle.tag.specs.Calls.{Written, read, write, accountKey, disconnect, own, Act, calls}
 use Rattle.demanded_answers.specs.Spelled.{NoBitOutside}
 use Rattle.demanded_answers.specs.History.{step, Succeeds}

@@ -18,7 +18,8 @@ use Rattle.account_keys.specs.Order.{keyAdded}
 use Rattle.unit.specs.Outcome.{Outcome, giving, refusing}
 use Rattle.time.specs.Time.{endsNext, ringOn, oneTenth, afterTenth, tenths}
 use Rattle.advertising.specs.Showing.{showing}
-use Rattle.own_calls.specs.Own.{pressed, keeping, broughtIn, disconnected}
+use Rattle.press_call.specs.Press.{pressed}
+use Rattle.key_calls.specs.Keys.{keeping, broughtIn, disconnected}
 use Rattle.settings_calls.specs.Settings.{charged}
 use Rattle.tag.specs.Calls.{Written, read, write, button, pairing, battery, accountKey, disconnect, frame, own, Act, calls, waits}
 use Rattle.demanded_answers.proofs.Guards.{ownOf}

@@ -21,16 +21,20 @@ use Rattle.unit.proofs.Lines.{lines, held-count}
 use Rattle.unit.specs.Ringable.{inside}
 use Rattle.unit.specs.Change.{spent, withAccounts}
 use Rattle.unit.specs.Outcome.{Outcome, giving, refusing}
-use Rattle.account_keys.specs.Order.{keyUsed}
+use Rattle.account_keys.specs.Order.{keyUsed, afterUse}
 use Rattle.account_keys.proofs.Order.{place-found, key-owned}
 use Rattle.authentication.specs.Judgement.{Judgement, accepts, rejects, answered, under, usedKey, signedByOwner, tagged, proves, lastNonce, concluded}
-use Rattle.account_reads.specs.Reads.{readParameters, readState, afterUse, ownedBy}
-use Rattle.provisioning.specs.Provisioning.{setKey, mayReplace, awaiting, clearKey, cleared, recoverKey}
-use Rattle.ring_values.specs.declared.Decision.{Decision}
+use Rattle.parameter_read.specs.Parameters.{readParameters}
+use Rattle.state_read.specs.State.{readState, ownedBy}
+use Rattle.provisioning.specs.Provisioning.{setKey, mayReplace, awaiting}
+use Rattle.clearing.specs.Clearing.{clearKey, cleared}
+use Rattle.recovery.specs.Recovery.{recoverKey}
+use Rattle.ring_decisions.specs.declared.Decision.{Decision}
 use Rattle.ring_values.specs.RingValues.{skips, ringLegal}
 use Rattle.ringing.specs.Ringing.{ring, rung, readSound}
-use Rattle.ringing.specs.Protecting.{flagOf, protect, unprotect}
-use Rattle.requests.specs.Write.{byId, keyThere, judged, written}
+use Rattle.protecting.specs.Protecting.{flagOf, protect, unprotect}
+use Rattle.handlers.specs.ById.{byId}
+use Rattle.requests.specs.Write.{keyThere, judged, written}
 use Rattle.tag.specs.Calls.{Written, write, own, calls}
 use Rattle.demanded_answers.specs.History.{step, Bytes}
 use Rattle.demanded_refusals.proofs.KeyUses.{used-among, claimed-held, claimed-lines, claimed-legal, claimed-key, claimed-bytes, first-bytes, held-bytes}

@@ -25,13 +25,18 @@ use Rattle.unit.specs.Outcome.{Outcome, giving, refusing}
 use Rattle.unit.proofs.Lines.{held-count}
 use Rattle.unit.proofs.Kept.{spent-kept}
 use Rattle.authentication.specs.Judgement.{Judgement, accepts, rejects, under, usedKey, onlyIf, signedByOwner, tagged, proves, lastNonce, concluded}
-use Rattle.account_reads.specs.Reads.{readParameters, readState}
-use Rattle.provisioning.specs.Provisioning.{setKey, mayReplace, clearKey, cleared, recoverKey}
-use Rattle.ring_values.specs.declared.Decision.{Decision}
-use Rattle.ring_values.specs.RingValues.{skips, ringLegal, ringMask, heldVolume, askedTimeout, reached, outOfReach, stopDecision, ringDecision, soundState as soundBytes}
+use Rattle.parameter_read.specs.Parameters.{readParameters}
+use Rattle.state_read.specs.State.{readState}
+use Rattle.provisioning.specs.Provisioning.{setKey, mayReplace}
+use Rattle.clearing.specs.Clearing.{clearKey, cleared}
+use Rattle.recovery.specs.Recovery.{recoverKey}
+use Rattle.ring_decisions.specs.declared.Decision.{Decision}
+use Rattle.ring_values.specs.RingValues.{skips, ringLegal, ringMask, heldVolume, askedTimeout, soundState as soundBytes}
+use Rattle.ring_decisions.specs.Decisions.{reached, outOfReach, stopDecision, ringDecision}
 use Rattle.ringing.specs.Ringing.{ring, rung, readSound}
-use Rattle.ringing.specs.Protecting.{flagOf, protect, unprotect}
-use Rattle.requests.specs.Write.{byId, keyThere, judged, written}
+use Rattle.protecting.specs.Protecting.{flagOf, protect, unprotect}
+use Rattle.handlers.specs.ById.{byId}
+use Rattle.requests.specs.Write.{keyThere, judged, written}
 use Rattle.tag.specs.Calls.{Written, own}
 use Rattle.demanded_answers.specs.Spelled.{keyAtPlace, OwnedWith}
 use Rattle.demanded_answers.specs.History.{step, writes}

@@ -21,15 +21,21 @@ use Rattle.unit.specs.Change.{spent, noUnit}
 use Rattle.unit.specs.Outcome.{Outcome, giving, refusing, formed, answering}
 use Rattle.unit.proofs.Lines.{lines}
 use Rattle.authentication.specs.Judgement.{Judgement, accepts, rejects, under, concluded}
-use Rattle.account_reads.specs.Reads.{readParameters, readState}
-use Rattle.provisioning.specs.Provisioning.{setKey, clearKey, recoverKey}
-use Rattle.ring_values.specs.declared.Decision.{Decision}
+use Rattle.parameter_read.specs.Parameters.{readParameters}
+use Rattle.state_read.specs.State.{readState}
+use Rattle.provisioning.specs.Provisioning.{setKey}
+use Rattle.clearing.specs.Clearing.{clearKey}
+use Rattle.recovery.specs.Recovery.{recoverKey}
+use Rattle.ring_decisions.specs.declared.Decision.{Decision}
 use Rattle.ringing.specs.Ringing.{ring, rung, readSound}
-use Rattle.ringing.specs.Protecting.{protect, unprotect}
-use Rattle.requests.specs.Write.{byId, judged, written}
+use Rattle.protecting.specs.Protecting.{protect, unprotect}
+use Rattle.handlers.specs.ById.{byId}
+use Rattle.requests.specs.Write.{judged, written}
 use Rattle.time.specs.Time.{tenths, afterTenth, endsNext, oneTenth, timeoutNotice}
 use Rattle.advertising.specs.Showing.{showing}
-use Rattle.own_calls.specs.Own.{issuing, pressed, keeping, disconnected}
+use Rattle.read_call.specs.Read.{issuing}
+use Rattle.press_call.specs.Press.{pressed}
+use Rattle.key_calls.specs.Keys.{keeping, disconnected}
 use Rattle.settings_calls.specs.Settings.{charged, newUnit}
 use Rattle.tag.specs.Calls.{Written, read, write, button, pairing, battery, accountKey, disconnect, frame, own, Act, calls, waits}
 use Rattle.demanded_answers.specs.History.{step}

@@ -23,7 +23,9 @@ use Rattle.nonces.specs.Nonces.{nonceFits}
 use Rattle.account_keys.specs.Order.{placeFor, keyAdded}
 use Rattle.account_keys.proofs.Order.{added-lines, added-owner, followed-owned}
 use Rattle.advertising.specs.Showing.{showing}
-use Rattle.own_calls.specs.Own.{issuing, pressed, keeping, broughtIn, disconnected}
+use Rattle.read_call.specs.Read.{issuing}
+use Rattle.press_call.specs.Press.{pressed}
+use Rattle.key_calls.specs.Keys.{keeping, broughtIn, disconnected}
 use Rattle.settings_calls.specs.Settings.{charged}
 use Rattle.tag.specs.Calls.{read, write, button, pairing, battery, accountKey, disconnect, frame, own, Act, calls, waits}
 use Rattle.demanded_answers.specs.History.{step, after}

@@ -18,10 +18,10 @@ use Rattle.unit.specs.WellFormed.{wellFormed, heldKeys, ownerLegal, rowOf, owne
 use Rattle.unit.specs.Change.{withAccounts}
 use Rattle.unit.proofs.Lines.{AccountsLines, lines, held-count, owner-held}
 use Rattle.unit.proofs.Kept.{owner-kept, accounts-kept}
-use Rattle.account_keys.specs.Order.{keyFirst, followed, keyUsed}
+use Rattle.account_keys.specs.Order.{keyFirst, followed, keyUsed, afterUse}
 use Rattle.account_keys.proofs.Order.{place-found, used-place, key-lines, key-owner, followed-owned}
 use Rattle.authentication.specs.Judgement.{usedKey}
-use Rattle.account_reads.specs.Reads.{claimed, afterUse}
+use Rattle.state_read.specs.State.{claimed}
 use Rattle.demanded_answers.specs.History.{Bytes}
 use Rattle.demanded_refusals.proofs.HeldKeys.{first-among}
 use Rattle.demanded_refusals.proofs.OfBytes.{bytes-take, bytes-drop, bytes-append}

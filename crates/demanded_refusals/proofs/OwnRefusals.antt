@@ -26,7 +26,9 @@ use Rattle.requests.specs.Write.{written}
 use Rattle.nonces.specs.Nonces.{issuedNonces, nonceFits}
 use Rattle.nonces.proofs.Lines.{issued-count}
 use Rattle.advertising.specs.Showing.{showing}
-use Rattle.own_calls.specs.Own.{issuing, pressed, keeping, disconnected}
+use Rattle.read_call.specs.Read.{issuing}
+use Rattle.press_call.specs.Press.{pressed}
+use Rattle.key_calls.specs.Keys.{keeping, disconnected}
 use Rattle.settings_calls.specs.Settings.{charged}
 use Rattle.tag.specs.Calls.{Written, read, write, button, pairing, battery, accountKey, disconnect, frame, own as ownCall, Act, calls, waits}
 use Rattle.demanded_answers.specs.History.{step}

@@ -28,13 +28,19 @@ use Rattle.unit.proofs.Masks.{inside-below, below-inside}
 use Rattle.unit.proofs.Lines.{RingLines, VolumeLines, lines, held-count, settings-legal}
 use Rattle.unit.proofs.Kept.{fresh-formed, clock-kept, battery-kept, pairing-kept, nonces-kept, spent-kept, owner-kept, waiting-kept, silenced-kept, ring-kept, protection-kept}
 use Rattle.authentication.specs.Judgement.{Judgement, accepts, rejects, lastNonce, tagged, usedKey, onlyIf, signedByOwner, under, concluded}
-use Rattle.account_reads.specs.Reads.{readParameters, readState, claimed, ownedBy, afterUse}
-use Rattle.provisioning.specs.Provisioning.{setKey, clearKey, recoverKey, mayReplace, awaiting, cleared}
-use Rattle.ring_values.specs.declared.Decision.{Decision}
-use Rattle.ring_values.specs.RingValues.{skips, ringLegal, ringMask, reached, outOfReach, stopDecision, ringDecision, allOfNone, askedVolume, askedTimeout, heldVolume}
+use Rattle.parameter_read.specs.Parameters.{readParameters}
+use Rattle.state_read.specs.State.{readState, claimed, ownedBy}
+use Rattle.account_keys.specs.Order.{afterUse}
+use Rattle.provisioning.specs.Provisioning.{setKey, mayReplace, awaiting}
+use Rattle.clearing.specs.Clearing.{clearKey, cleared}
+use Rattle.recovery.specs.Recovery.{recoverKey}
+use Rattle.ring_decisions.specs.declared.Decision.{Decision}
+use Rattle.ring_values.specs.RingValues.{skips, ringLegal, ringMask, allOfNone, askedVolume, askedTimeout, heldVolume}
+use Rattle.ring_decisions.specs.Decisions.{reached, outOfReach, stopDecision, ringDecision}
 use Rattle.ringing.specs.Ringing.{ring, rung, readSound}
-use Rattle.ringing.specs.Protecting.{protect, unprotect}
-use Rattle.requests.specs.Write.{byId, keyThere, judged, written}
+use Rattle.protecting.specs.Protecting.{protect, unprotect}
+use Rattle.handlers.specs.ById.{byId}
+use Rattle.requests.specs.Write.{keyThere, judged, written}
 use Rattle.account_keys.proofs.Order.{followed-owned}
 use Rattle.demanded_refusals.proofs.KeyUses.{used-among, owner-held-key, claimed-held, after-use}
 use Rattle.demanded_refusals.proofs.HeldKeys.{first-among, place-below}

@@ -24,7 +24,9 @@ use Rattle.frame.specs.Frame.{rendered}
 use Rattle.time.specs.Time.{tenths}
 use Rattle.nonces.specs.Nonces.{nonceFits}
 use Rattle.advertising.specs.Showing.{showing}
-use Rattle.own_calls.specs.Own.{issuing, pressed, keeping, broughtIn as bringing, disconnected}
+use Rattle.read_call.specs.Read.{issuing}
+use Rattle.press_call.specs.Press.{pressed}
+use Rattle.key_calls.specs.Keys.{keeping, broughtIn as bringing, disconnected}
 use Rattle.settings_calls.specs.Settings.{charged}
 use Rattle.tag.specs.Calls.{Written, Call, read, write, button, pairing, battery, accountKey, disconnect, frame, own, Act, calls, waits}
 use Rattle.demanded_answers.specs.History.{step}

@@ -17,9 +17,10 @@ use Rattle.unit.specs.WellFormed.{wellFormed}
 use Rattle.unit.specs.Change.{fresh, spent}
 use Rattle.unit.specs.Outcome.{Outcome}
 use Rattle.authentication.specs.Judgement.{concluded, lastNonce}
-use Rattle.provisioning.specs.Provisioning.{recoverKey}
-use Rattle.requests.specs.Write.{byId, judged, written}
-use Rattle.own_calls.specs.Own.{pressed}
+use Rattle.recovery.specs.Recovery.{recoverKey}
+use Rattle.handlers.specs.ById.{byId}
+use Rattle.requests.specs.Write.{judged, written}
+use Rattle.press_call.specs.Press.{pressed}
 use Rattle.tag.specs.Calls.{button, own, guarded, call, Act, calls, waits, act}
 use Rattle.demanded_answers.specs.History.{step, after, sends}
 use Rattle.demanded_nonces.specs.Among.{NoneIn, Accepts, tenthsIn}

@@ -16,7 +16,8 @@ use Rattle.unit.specs.declared.TagUnit.{TagUnit}
 use Rattle.unit.specs.declared.Sound.{Sound}
 use Rattle.unit.specs.WellFormed.{wellFormed}
 use Rattle.unit.specs.Change.{spent}
-use Rattle.ring_values.specs.RingValues.{heldVolume, askedTimeout, reached}
+use Rattle.ring_values.specs.RingValues.{heldVolume, askedTimeout}
+use Rattle.ring_decisions.specs.Decisions.{reached}
 use Rattle.tag.specs.Calls.{Written}
 use Rattle.demanded_answers.specs.History.{step, writes, Succeeds}
 use Rattle.demanded_nonces.specs.Among.{notifies}

@@ -6,7 +6,8 @@ use mathlib.Core.List.{List, [], _∷_, _++_}
 use native.Mathlib.Omega.{arith}
 use lib.ListN.{length, getD, take, drop, length-append}
 use lib.Seq.{take-at, getD-at, getD-append-add}
-use Rattle.frame_reader.specs.Reader.{Parts, Opened}
+use Rattle.frame_reader.specs.Reader.{Parts}
+use Rattle.frame_opener.specs.Opener.{Opened}
 use Rattle.desk.specs.Exported.{partBytes, openedBytes, flagsShown, flagsByte}
 use Rattle.desk.specs.Places.{Placed, PlacedWithR, Places}
 

@@ -8,7 +8,8 @@ use lib.ListN.{length}
 use Rattle.laws.specs.Answer.{Result, gives, refuses, lentAfter}
 use Rattle.sizes.specs.Sizes.{identifierSize}
 use Rattle.frame.specs.declared.Flags.{Flags}
-use Rattle.frame_reader.specs.Reader.{Parts, Opened, Reading, reads, refused, wrongByte, readFrame, readFrameWithR}
+use Rattle.frame_reader.specs.Reader.{Parts, Reading, reads, refused, wrongByte, readFrame}
+use Rattle.frame_opener.specs.Opener.{Opened, readFrameWithR}
 
 -- "it gives identifier, protection bit and flags byte if present": the identifier, protection as 0 or 1, whether there is a flags byte, as 0 or
 -- 1, and that byte, or 0; with r the battery level behind them

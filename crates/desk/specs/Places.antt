@@ -4,7 +4,8 @@ use mathlib.Core.Path.{_≡_}
 use mathlib.Core.Bool.{cond}
 use lib.ListN.{length, getD, take, drop}
 use Rattle.sizes.specs.Sizes.{identifierSize}
-use Rattle.frame_reader.specs.Reader.{Parts, Opened}
+use Rattle.frame_reader.specs.Reader.{Parts}
+use Rattle.frame_opener.specs.Opener.{Opened}
 use Rattle.desk.specs.Exported.{partBytes, openedBytes, flagsShown, flagsByte, partsIdentifierAt, partsProtectionAt, partsFlagsShownAt, partsFlagsByteAt, partsSize, partsBatteryAt, partsWithRSize}
 
 pub record Placed (p : Parts) : Type 0 where

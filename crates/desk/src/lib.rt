@@ -1,14 +1,14 @@
 // The frame reader for a host in C or Rust: any bytes are handed in, and what a frame says stands in the bytes that the host lends. Each call gives
 // one number: the bytes written, or 256 and the refusal's number, and for refusal 8 also, 65,536 times, the place of the first wrong byte.
 ghost use mathlib.Core.Path.{_≡_};
-ghost use Prim.Native.Nat.{_+_, _*_, _≤_};
+ghost use Prim.Native.Nat.{_≤_};
 ghost use lib.ListN.{length};
 ghost use Rattle.laws.specs.Answer.{Wrote};
 ghost use Rattle.sizes.specs.Sizes.{longestFrame};
 ghost use Rattle.desk.specs.Exported.{partsSize, partBytes, flagsShown, flagsByte, partsRead, partsReadWithR, ExportsReading, wrongByteCode};
 use frame::Flags;
+use frame_opener::SeenWithR;
 use frame_reader::Seen;
-use frame_reader::SeenWithR;
 use sizes::IDENTIFIER_SIZE;
 
 const REFUSAL_BASE: u64 = 256;
@@ -85,12 +85,12 @@ pub fn read_with_r(text: &[u8], r: &[u8], parts: &mut [u8]) -> u64
     if parts.len() < OPENED_SIZE {
         return REFUSAL_BASE + NO_ROOM;
     }
-    let scanned = frame_reader::read_with_r(text, r);
+    let scanned = frame_opener::read_with_r(text, r);
     let id = scanned.id;
     let seen = scanned.seen;
     match seen {
         SeenWithR::WrongByte(at) => wrong_byte(at),
-        SeenWithR::WrongSize => REFUSAL_BASE + frame_reader::WRONG_SIZE,
+        SeenWithR::WrongSize => REFUSAL_BASE + frame_opener::WRONG_SIZE,
         SeenWithR::Frame { on, flags, battery } => {
             put_parts(parts, id, on, flags);
             parts[PARTS_SIZE] = battery;

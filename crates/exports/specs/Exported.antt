@@ -6,8 +6,8 @@ use mathlib.Core.List.{List}
 use lib.Dec.{eqb}
 use lib.ListN.{length}
 use Rattle.laws.specs.Answer.{Result, gives, refuses, lentAfter}
-use Rattle.primitive_calls.specs.Calls.{endNumber}
-use Rattle.primitive_calls.specs.declared.Ending.{Ending}
+use Rattle.lent_answer.specs.Ends.{endNumber}
+use Rattle.lent_answer.specs.declared.Ending.{Ending}
 use Rattle.unit.specs.declared.TagUnit.{TagUnit}
 use Rattle.unit.specs.WellFormed.{wellFormed}
 use Rattle.unit.specs.Refusals.{End, wrote, refused}

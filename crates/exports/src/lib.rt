@@ -7,7 +7,7 @@ ghost use Rattle.unit.specs.Refusals.{endOf, refused, refusalNumber};
 ghost use Rattle.unit.specs.Change.{noUnit};
 ghost use Rattle.stored.specs.Record.{recordSize};
 ghost use Rattle.exports.specs.Exported.{refusalBase, endedBase, spends as spendsNonce, writesBack, Finishes, digestCode};
-use primitive_calls::Ending;
+use lent_answer::Ending;
 use unit::Refusal;
 use unit::Reply;
 use unit::TagUnit;

@@ -14,8 +14,8 @@ use Rattle.laws.specs.Answer.{Result, gives, refuses, lentAfter}
 use Rattle.laws.proofs.Flags.{true-or-false, clash}
 use Rattle.sizes.specs.Sizes.{answerRoom, accountKeySize, highestBattery}
 use Rattle.tables.specs.Rows.{among}
-use Rattle.primitive_calls.specs.declared.Ending.{Ending}
-use Rattle.primitive_calls.specs.Calls.{orRefusal, endNumber, numberOf, Ends as Digests}
+use Rattle.lent_answer.specs.declared.Ending.{Ending}
+use Rattle.lent_answer.specs.Ends.{orRefusal, endNumber, numberOf, Ends as Digests}
 use Rattle.unit.specs.declared.TagUnit.{TagUnit}
 use Rattle.unit.specs.declared.Sound.{Sound}
 use Rattle.unit.specs.declared.Reply.{Reply}
@@ -34,7 +34,9 @@ use Rattle.time.specs.Time.{tenths}
 use Rattle.time.specs.Passing.{Passes}
 use Rattle.nonces.specs.Nonces.{nonceFits}
 use Rattle.advertising.specs.Showing.{showing}
-use Rattle.own_calls.specs.Own.{issuing, pressed, keeping, disconnected}
+use Rattle.read_call.specs.Read.{issuing}
+use Rattle.press_call.specs.Press.{pressed}
+use Rattle.key_calls.specs.Keys.{keeping, disconnected}
 use Rattle.settings_calls.specs.Settings.{charged, newUnit}
 use Rattle.tag.specs.Calls.{Call, read, write, button, pairing, battery, accountKey, disconnect, frame, own, lends, guarded, call, elapsed}
 use Rattle.stored.specs.Record.{decoded, encoded, recordSize}

@@ -4,7 +4,8 @@
 ghost use mathlib.Core.Bool.{not};
 ghost use lib.Dec.{eqb};
 ghost use lib.ListN.{length};
-ghost use Rattle.primitive_calls.specs.Calls.{hashed, authenticated, encrypted, decrypted, encrypted256};
+ghost use Rattle.hash_calls.specs.Calls.{hashed, authenticated};
+ghost use Rattle.cipher_calls.specs.Calls.{encrypted, decrypted, encrypted256};
 ghost use Rattle.desk.specs.Exported.{partsRead, partsReadWithR, ExportsReading};
 ghost use Rattle.settings_calls.specs.Settings.{newUnit};
 ghost use Rattle.tag.specs.Calls.{call, elapsed as elapsedOf};
@@ -174,7 +175,7 @@ pub extern "C" fn tag_frame_read_with_r(frame: &[u8], r: &[u8], parts: &mut [u8]
 pub extern "C" fn tag_sha256(message: &[u8], answer: &mut [u8]) -> u64
     ensures { λ code. ⌜ ExportsDigest (hashed (now (message .entry)) (length (now (answer .entry)))) code (now (answer .entry)) (now (answer .exit)) ⌝ }
 {
-    let end = primitive_calls::sha256(message, answer);
+    let end = hash_calls::sha256(message, answer);
     exports::digest_code(end, DIGEST_SIZE as u64)
 }
 
@@ -183,7 +184,7 @@ pub extern "C" fn tag_sha256(message: &[u8], answer: &mut [u8]) -> u64
 pub extern "C" fn tag_hmac_sha256(key: &[u8], message: &[u8], answer: &mut [u8]) -> u64
     ensures { λ code. ⌜ ExportsDigest (authenticated (now (key .entry)) (now (message .entry)) (length (now (answer .entry)))) code (now (answer .entry)) (now (answer .exit)) ⌝ }
 {
-    let end = primitive_calls::hmac_sha256(key, message, answer);
+    let end = hash_calls::hmac_sha256(key, message, answer);
     exports::digest_code(end, DIGEST_SIZE as u64)
 }
 
@@ -192,7 +193,7 @@ pub extern "C" fn tag_hmac_sha256(key: &[u8], message: &[u8], answer: &mut [u8])
 pub extern "C" fn tag_aes128_encrypt(key: &[u8], block: &[u8], answer: &mut [u8]) -> u64
     ensures { λ code. ⌜ ExportsDigest (encrypted (now (key .entry)) (now (block .entry)) (length (now (answer .entry)))) code (now (answer .entry)) (now (answer .exit)) ⌝ }
 {
-    let end = primitive_calls::aes128_encrypt(key, block, answer);
+    let end = cipher_calls::aes128_encrypt(key, block, answer);
     exports::digest_code(end, BLOCK_SIZE as u64)
 }
 
@@ -201,7 +202,7 @@ pub extern "C" fn tag_aes128_encrypt(key: &[u8], block: &[u8], answer: &mut [u8]
 pub extern "C" fn tag_aes128_decrypt(key: &[u8], block: &[u8], answer: &mut [u8]) -> u64
     ensures { λ code. ⌜ ExportsDigest (decrypted (now (key .entry)) (now (block .entry)) (length (now (answer .entry)))) code (now (answer .entry)) (now (answer .exit)) ⌝ }
 {
-    let end = primitive_calls::aes128_decrypt(key, block, answer);
+    let end = cipher_calls::aes128_decrypt(key, block, answer);
     exports::digest_code(end, BLOCK_SIZE as u64)
 }
 
@@ -210,6 +211,6 @@ pub extern "C" fn tag_aes128_decrypt(key: &[u8], block: &[u8], answer: &mut [u8]
 pub extern "C" fn tag_aes256_encrypt(key: &[u8], block: &[u8], answer: &mut [u8]) -> u64
     ensures { λ code. ⌜ ExportsDigest (encrypted256 (now (key .entry)) (now (block .entry)) (length (now (answer .entry)))) code (now (answer .entry)) (now (answer .exit)) ⌝ }
 {
-    let end = primitive_calls::aes256_encrypt(key, block, answer);
+    let end = cipher_calls::aes256_encrypt(key, block, answer);
     exports::digest_code(end, BLOCK_SIZE as u64)
 }

@@ -11,7 +11,8 @@ use Rattle.laws.proofs.Flags.{and-left, and-right, and-fails-right}
 use Rattle.laws.proofs.Xor.{xor-cancel}
 use Rattle.frame.specs.declared.Flags.{Flags}
 use Rattle.frame.specs.Frame.{flagsBeforeXor, flagsMask, flagsFor}
-use Rattle.frame_reader.specs.Reader.{Parts, reads, unmasked, protectionBit, batteryLevel, reservedBits, flagsRight, openedBy}
+use Rattle.frame_reader.specs.Reader.{Parts, reads}
+use Rattle.frame_opener.specs.Opener.{unmasked, protectionBit, batteryLevel, reservedBits, flagsRight, openedBy}
 
 -- a level that shows a flags byte is found again in it, and it passes the tests
 shown-right : (battery : ℕ) (on : Bool) → battery ≤ 3 → eqb battery 0 && not on ≡ false

@@ -16,7 +16,8 @@ use Rattle.laws.proofs.Flags.{true-or-false, and-fails-right}
 use Rattle.laws.proofs.Xor.{xor-cancel}
 use Rattle.frame.specs.declared.Flags.{Flags}
 use Rattle.frame.specs.Frame.{rendered, flagsMask, flagsFor, flagsBeforeXor}
-use Rattle.frame_reader.specs.Reader.{Parts, Opened, Reading, reads, refused, frameOf, readFrame, readFrameWithR, withR, openedBy, unmasked, flagsRight, batteryLevel}
+use Rattle.frame_reader.specs.Reader.{Parts, Reading, reads, refused, frameOf, readFrame}
+use Rattle.frame_opener.specs.Opener.{Opened, readFrameWithR, withR, openedBy, unmasked, flagsRight, batteryLevel}
 use Rattle.frame_laws.specs.ReadBack.{Sendable, FrameOf, FrameWithR, IsFrame, IsFrameWithR, Begins, WrongInside, FirstWrongAt, ReadBackWithR}
 use Rattle.frame_laws.proofs.FirstWrong.{one-place, none-in-a-frame}
 use Rattle.frame_laws.proofs.RoundTrip.{read-written, frame-reads}

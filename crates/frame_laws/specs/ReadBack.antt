@@ -8,7 +8,8 @@ use mathlib.Core.List.{List, [], _++_}
 use lib.ListN.{length, take}
 use Rattle.frame.specs.declared.Flags.{Flags}
 use Rattle.frame.specs.Frame.{rendered, flagsFor}
-use Rattle.frame_reader.specs.Reader.{Parts, Opened, reads, refused, wrongByte, wrongSize, frameOf, readFrame, readFrameWithR}
+use Rattle.frame_reader.specs.Reader.{Parts, reads, refused, wrongByte, frameOf, readFrame}
+use Rattle.frame_opener.specs.Opener.{Opened, wrongSize, readFrameWithR}
 
 -- The parts of which the writer makes frames: any identifier of `size` bytes, any flags byte, and "our writer never omits flags under protection"
 pub record Sendable (size : ℕ) (p : Parts) : Type 0 where

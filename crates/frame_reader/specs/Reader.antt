@@ -1,13 +1,12 @@
 -- 2026-02, "A reader for our own frames": what a text says as a frame whose identifier has `size` bytes, or where it is wrong.
-use Prim.Native.Nat.{ℕ, zero, suc, _+_, _/_, _%_}
-use mathlib.Core.Bool.{Bool, cond, not, _&&_}
+use Prim.Native.Nat.{ℕ, suc, _+_}
+use mathlib.Core.Bool.{Bool, cond, _&&_}
 use mathlib.Core.List.{List, [], _∷_, _++_}
 use lib.Dec.{eqb}
-use lib.ListN.{length, getD, take, drop, replicate}
-use lib.Bits.{bitXor}
+use lib.ListN.{getD, take, drop, replicate}
 use Rattle.laws.specs.Bytes.{sameBytes}
 use Rattle.sizes.specs.Sizes.{frameIdentifierAt, frameFlagsAt}
-use Rattle.frame.specs.Frame.{rendered, flagsMask}
+use Rattle.frame.specs.Frame.{rendered}
 use Rattle.frame.specs.declared.Flags.{Flags}
 
 -- "it gives identifier, protection bit and flags byte if present"
@@ -26,12 +25,9 @@ pub data Reading (A : Type 0) : Type 0 where
   reads : A → Reading A
   refused : (number place : ℕ) → Reading A
 
--- "refuses with 8, new in the list", and "refusal 1" for an r of a wrong size
+-- "refuses with 8, new in the list"
 abbrev pub wrongByte : ℕ
 wrongByte = 8
-
-abbrev pub wrongSize : ℕ
-wrongSize = 1
 
 -- Where the length byte and the byte of the frame's kind stand
 abbrev pub lengthAt : ℕ
@@ -71,42 +67,3 @@ firstWrong size text = common text (claimedFrame size text)
 unfoldable pub readFrame : ℕ → List ℕ → Reading Parts
 readFrame size text =
     cond (sameBytes text (claimedFrame size text)) (reads (claimed size text)) (refused wrongByte (firstWrong size text))
-
--- "Given r .., the battery level is recovered too": what a frame says with it
-pub record Opened : Type 0 where
-  pub parts : Parts
-  pub battery : ℕ
-
--- The flags byte after the XOR, from its last bit on: protection, the battery level in two bits, five reserved bits
-abbrev pub unmasked : List ℕ → ℕ → ℕ
-unmasked r byte = bitXor byte (flagsMask r)
-
-abbrev pub protectionBit : ℕ → ℕ
-protectionBit f = f % 2
-
-abbrev pub batteryLevel : ℕ → ℕ
-batteryLevel f = f / 2 % 4
-
-abbrev pub reservedBits : ℕ → ℕ
-reservedBits f = f / 8
-
--- "a flags byte whose five reserved bits aren't zero after the XOR, whose protection bit differs from the frame type, or which shows battery 0
--- and no protection, is refused at that byte"
-unfoldable pub flagsRight : Bool → ℕ → Bool
-flagsRight on f =
-    eqb (reservedBits f) 0 && (eqb (protectionBit f) (cond on 1 0) && not (eqb (batteryLevel f) 0 && eqb (protectionBit f) 0))
-
-unfoldable pub openedBy : List ℕ → ℕ → Parts → Flags → Reading Opened
-openedBy r size p Flags.LeftOut = reads (record { parts = p; battery = 0 })
-openedBy r size p (Flags.Shown byte) =
-    cond (flagsRight (p .protected) (unmasked r byte))
-    (reads (record { parts = p; battery = batteryLevel (unmasked r byte) }))
-    (refused wrongByte (frameFlagsAt size))
-
--- "looked at only when the frame reads; refusal 1 if it isn't as long as its identifier"
-abbrev pub withR : List ℕ → ℕ → Reading Parts → Reading Opened
-withR r size (refused number place) = refused number place
-withR r size (reads p) = cond (eqb (length r) size) (openedBy r size p (p .flags)) (refused wrongSize 0)
-
-unfoldable pub readFrameWithR : ℕ → List ℕ → List ℕ → Reading Opened
-readFrameWithR size r text = withR r size (readFrame size text)

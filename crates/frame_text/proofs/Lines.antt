@@ -10,7 +10,7 @@ use lib.Dec.{leb, ltb, eqb}
 use lib.ListN.{length, take, set}
 use lib.Seq.{length-take-le, take-suc-set}
 use borrow.Author.Tests.{le-leb, lt-leb, lt-ltb, le-ltb, ne-eqb, leb-true}
-use Rattle.reading.specs.Reading.{bytes}
+use Rattle.hex_reading.specs.Hex.{bytes}
 use Rattle.frame_reader.specs.Reader.{readFrame}
 use Rattle.frame_text.specs.Answers.{malformedText, readingText, lineText}
 use Rattle.frame_text.specs.Taking.{soFar, longer, closed, ends}

@@ -8,7 +8,7 @@ use lib.Dec.{leb, eqb}
 use lib.ListN.{length}
 use Rattle.sizes.specs.Sizes.{identifierSize}
 use Rattle.notation.specs.Text.{ascii, newline, hex, decimal}
-use Rattle.reading.specs.Reading.{bytes}
+use Rattle.hex_reading.specs.Hex.{bytes}
 use Rattle.frame.specs.declared.Flags.{Flags}
 use Rattle.frame_reader.specs.Reader.{Parts, Reading, reads, refused, readFrame}
 

@@ -11,8 +11,8 @@ ghost use Rattle.frame_text.specs.Answers.{longestLine, malformedText, p
 ghost use Rattle.frame_text.specs.Taking.{soFar, longer as longerBy, closed as closedAs, ends, Says, Takes};
 use frame::Flags;
 use frame_reader::Seen;
+use hex_reading::Octets;
 use notation::text;
-use reading::Octets;
 use sizes::IDENTIFIER_SIZE;
 
 const NEWLINE: u8 = 10;
@@ -124,7 +124,7 @@ fn answer(line: &[u8]) -> Text
     ensures { λ r. ⌜ Says (lineText (now (line .entry))) r ⌝ }
 {
     let mut frame = [0u8; MOST_BYTES];
-    match reading::unhex(line, &mut frame) {
+    match hex_reading::unhex(line, &mut frame) {
         Octets::Count(n) => told(&frame[..n]),
         Octets::Wrong => malformed(),
     }

@@ -5,7 +5,7 @@ pub mod value;
 
 use compression::Working;
 use compression::compress;
-use padding::message::load;
+use message_blocks::load;
 ghost use mathlib.Core.Path.{_≡_};
 ghost use mathlib.Core.List.{List, _++_};
 ghost use Prim.Native.Nat.{ℕ, _+_, _%_, _^_, _<_};

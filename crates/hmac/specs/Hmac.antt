@@ -5,8 +5,7 @@ use mathlib.Core.List.{List, _++_}
 use lib.Dec.{leb}
 use lib.ListN.{length, replicate}
 use Rattle.laws.specs.Bytes.{_⊕_}
-use Rattle.hash.specs.Sha256.{SHA256}
-use Rattle.hash.specs.Sha256.{valueAfter}
+use Rattle.hash.specs.Sha256.{SHA256, valueAfter}
 use Rattle.hmac.specs.declared.Keyed.{Keyed}
 
 abbrev pub B : ℕ

@@ -7,7 +7,8 @@ use lib.IntN.{ℤ}
 use Rattle.laws.specs.Bytes.{sameBytes}
 use Rattle.tag.specs.Calls.{Call, read, write, button, pairing, battery, accountKey, disconnect, frame}
 use Rattle.notation.specs.Text.{ascii}
-use Rattle.reading.specs.Reading.{after, unsigned, signed, flag, bytes, oneByte}
+use Rattle.reading.specs.Reading.{after, unsigned, signed, flag}
+use Rattle.hex_reading.specs.Hex.{bytes, oneByte}
 use Rattle.events.specs.Event.{Event, asks, elapsed}
 
 -- "First the three settings, then events, each followed by its own lines": a line of the settings or of an event, with what was read

@@ -3,14 +3,15 @@ ghost use mathlib.Core.Path.{_≡_};
 ghost use Prim.Native.Nat.{_≤_};
 ghost use lib.ListN.{length};
 ghost use mathlib.Core.List.{[]};
-ghost use Rattle.reading.specs.Reading.{unsigned as unsignedOf, bytes as bytesOf};
+ghost use Rattle.reading.specs.Reading.{unsigned as unsignedOf};
+ghost use Rattle.hex_reading.specs.Hex.{bytes as bytesOf};
 ghost use Rattle.lines.specs.Lines as lines;
 ghost use Rattle.lines.specs.Promises.{expecting, awaiting, Means, Says, SaysNumber, lineOf, valueLine};
 use events::Ask;
 use events::Event;
 use events::Setting;
+use hex_reading::Octets;
 use reading::Numeral;
-use reading::Octets;
 use reading::SignedNumeral;
 use reading::Switch;
 
@@ -129,7 +130,7 @@ fn reach(line: &[u8]) -> Told
     if !reading::begins(line, b"reach=") {
         return plain(Line::Breaks);
     }
-    match reading::one_byte(&line[6..]) {
+    match hex_reading::one_byte(&line[6..]) {
         Numeral::Value(parts) => Told {
             line: Line::Brings(Event::Asks(Ask::Write)),
             number: parts,
@@ -166,7 +167,7 @@ fn octets(line: &[u8], key: &[u8], means: Line, into: &mut [u8]) -> Told
         return plain(Line::Breaks);
     }
     let start = key.len();
-    match reading::unhex(&line[start..], into) {
+    match hex_reading::unhex(&line[start..], into) {
         Octets::Count(n) => Told {
             line: means,
             number: 0,

@@ -1,25 +1,22 @@
--- The judgements of 0x02 to 0x04, from what their handlers test: a key that was found, a proof that holds, consent.
+-- The judgement of 0x02, from what its handler tests: a key that was found, a proof that holds.
 use Prim.Native.Nat.{ℕ, _-_}
 use mathlib.Core.Path.{_≡_, ap, _∙_}
-use mathlib.Core.Bool.{Bool, true, false, not, _||_}
+use mathlib.Core.Bool.{Bool, true, false, not}
 use mathlib.Core.List.{List, []}
 use mathlib.Core.Option.{some, none}
 use native.Mathlib.Omega.{arith}
-use lib.Dec.{ltb}
 use lib.ListN.{length, take, drop, length-drop}
 use lib.Seq.{take-all}
 use borrow.Author.Tests.{eq-eqb, ne-eqb}
 use Rattle.sizes.specs.Sizes.{identityKeySize}
-use Rattle.wire.specs.Signing.{recoveryKey}
 use Rattle.wire.specs.Shape.{Request, provenSize}
-use Rattle.key_blocks.specs.KeyBlocks.{decryptedKey, encryptedKey}
+use Rattle.key_blocks.specs.KeyBlocks.{decryptedKey}
 use Rattle.unit.specs.Change.{withAccounts}
-use Rattle.unit.specs.WellFormed.{ownerKey}
 use Rattle.unit.specs.declared.TagUnit.{TagUnit}
 use Rattle.unit.specs.declared.Accounts.{Accounts}
-use Rattle.authentication.specs.Judgement.{accepts, notAuthenticated, noConsent, lastNonce, tagged, proves, answered, signedByOwner}
+use Rattle.authentication.specs.Judgement.{accepts, notAuthenticated, proves, answered, signedByOwner}
 use Rattle.account_keys.specs.Order.{keyUsed}
-use Rattle.provisioning.specs.Provisioning.{mayReplace, awaiting, setKey, cleared, clearKey, recoverKey}
+use Rattle.provisioning.specs.Provisioning.{mayReplace, awaiting, setKey}
 
 -- Whether 0x02 may set the key
 module _ (u : TagUnit) (q : Request) where
@@ -54,36 +51,3 @@ module _ (u : TagUnit) (q : Request) where
       → setKey u q ≡ accepts (withAccounts keys after) (answered used u q [])
   unfolding setKey
   key-set e k p d a s = rw (e, p, a, s, d, k)
-
-  pub clear-nowhere : signedByOwner u q ≡ none → clearKey u q ≡ notAuthenticated
-  unfolding clearKey
-  clear-nowhere e = rw e
-
-  pub clear-unproved : {key : List ℕ} → signedByOwner u q ≡ some key → proves u (q .additional) ≡ false → clearKey u q ≡ notAuthenticated
-  unfolding clearKey
-  clear-unproved e p = rw (e, p)
-
-  pub key-cleared : {used : List ℕ} {after : TagUnit} → signedByOwner u q ≡ some used → proves u (q .additional) ≡ true → after ≡ cleared u
-      → clearKey u q ≡ accepts after (answered used u q [])
-  unfolding clearKey
-  key-cleared e p a = rw (e, p, a)
-
-  pub recover-nowhere : ownerKey (u .accounts) ≡ none → recoverKey u q ≡ notAuthenticated
-  unfolding recoverKey
-  recover-nowhere e = rw e
-
-  module _ {used : List ℕ} (e : ownerKey (u .accounts) ≡ some used) where
-    pub recover-unsigned : tagged (recoveryKey (u .identity .bytes)) (lastNonce u) q ≡ false → recoverKey u q ≡ notAuthenticated
-    unfolding recoverKey
-    recover-unsigned t = rw (e, t)
-
-    module _ (t : tagged (recoveryKey (u .identity .bytes)) (lastNonce u) q ≡ true) where
-      pub recover-unasked : ltb 0 (u .consent) || u .pairing ≡ false → recoverKey u q ≡ noConsent
-      unfolding recoverKey
-      recover-unasked p = rw (e, t, p)
-
-      pub key-recovered : {key payload : List ℕ} → ltb 0 (u .consent) || u .pairing ≡ true → key ≡ used
-          → payload ≡ encryptedKey key (u .identity .bytes)
-          → recoverKey u q ≡ accepts u (answered (recoveryKey (u .identity .bytes)) u q payload)
-      unfolding recoverKey
-      key-recovered p k d = rw (e, t, p, d, k)

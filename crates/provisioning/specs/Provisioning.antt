@@ -1,19 +1,16 @@
--- The requests 0x02 to 0x04: setting, clearing and recovering the identity key. Each is judged on the unit with its nonce spent; 0x03 and 0x04
--- only with an identity key.
-use mathlib.Core.Bool.{Bool, cond, not, _&&_, _||_}
+-- The request 0x02: setting the identity key. It is judged on the unit with its nonce spent.
+use mathlib.Core.Bool.{Bool, cond, not, _&&_}
 use mathlib.Core.List.{List, []}
 use Prim.Native.Nat.{ℕ}
-use lib.Dec.{eqb, ltb}
+use lib.Dec.{eqb}
 use lib.ListN.{drop}
 use Rattle.sizes.specs.Sizes.{identityKeySize}
-use Rattle.wire.specs.Signing.{recoveryKey}
 use Rattle.wire.specs.Shape.{Request, provenSize}
-use Rattle.key_blocks.specs.KeyBlocks.{decryptedKey, encryptedKey}
+use Rattle.key_blocks.specs.KeyBlocks.{decryptedKey}
 use Rattle.unit.specs.declared.TagUnit.{TagUnit}
-use Rattle.unit.specs.WellFormed.{ownerKey}
-use Rattle.unit.specs.Change.{fresh, withClock, withNonces, withWaiting, identityKey, withBattery, withPairing, keyed, keyInForce}
-use Rattle.authentication.specs.Judgement.{Judgement, accepts, notAuthenticated, noConsent, unless, under, lastNonce, tagged, proves, answered, signedByOwner}
-use Rattle.account_reads.specs.Reads.{afterUse}
+use Rattle.unit.specs.Change.{withWaiting, identityKey, keyed}
+use Rattle.authentication.specs.Judgement.{Judgement, accepts, notAuthenticated, unless, under, proves, answered, signedByOwner}
+use Rattle.account_keys.specs.Order.{afterUse}
 
 -- 0x02: "48: the last 8 bytes prove the held key. 40: none is held"; judged by the key in force
 unfoldable pub mayReplace : TagUnit → Request → Bool
@@ -31,24 +28,3 @@ setKey u q =
     (λ key.
     unless (mayReplace u q) notAuthenticated
     (accepts (awaiting (decryptedKey key (q .additional)) (afterUse key u)) (answered key u q [])))
-
--- 0x03: "The unit becomes fresh, keeping settings, clock, last nonce (spent), battery and pairing (house)"; so "0x03 drops both" keys
-unfoldable pub cleared : TagUnit → TagUnit
-cleared u =
-    withClock (u .clock) (withNonces (u .nonces) (withBattery (u .battery) (withPairing (u .pairing) (fresh (u .settings)))))
-
--- "owner key and key proof"
-unfoldable pub clearKey : TagUnit → Request → Judgement
-clearKey u q =
-    under (signedByOwner u q)
-    (λ key. unless (proves u (q .additional)) notAuthenticated (accepts (cleared u) (answered key u q [])))
-
--- 0x04: "recovery key; then consent left or pairing on. Data: the identity key, two blocks encrypted with the owner key. Consent isn't
--- used up"
-unfoldable pub recoverKey : TagUnit → Request → Judgement
-recoverKey u q =
-    under (ownerKey (u .accounts))
-    (λ key.
-    unless (tagged (recoveryKey (keyInForce u)) (lastNonce u) q) notAuthenticated
-    (unless (ltb 0 (u .consent) || u .pairing) noConsent
-    (accepts u (answered (recoveryKey (keyInForce u)) u q (encryptedKey key (keyInForce u))))))

@@ -1,3 +1,1 @@
 pub mod Numerals
-pub mod Unhexed
-pub mod OneByte

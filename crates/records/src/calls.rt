@@ -22,6 +22,7 @@ pub fn run(row: &[u8]) -> u64 {
     )
 }
 
+// A call that gives answer bytes; any other has no use for them.
 fn named(name: &[u8], row: &[u8], record: &mut [u8], answer: &mut [u8]) -> u64 {
     if octets::same(name, b"read") {
         return read(row, record, answer);
@@ -35,6 +36,13 @@ fn named(name: &[u8], row: &[u8], record: &mut [u8], answer: &mut [u8]) -> u64 {
     if octets::same(name, b"elapsed") {
         return firmware::tag_elapsed(record, number(row, b"tenths="), answer);
     }
+    if octets::same(name, b"frame") {
+        return firmware::tag_frame(record, answer);
+    }
+    unanswered(name, row, record)
+}
+
+fn unanswered(name: &[u8], row: &[u8], record: &mut [u8]) -> u64 {
     if octets::same(name, b"pairing") {
         return firmware::tag_pairing(record, number(row, b"on="));
     }
@@ -49,9 +57,6 @@ fn named(name: &[u8], row: &[u8], record: &mut [u8], answer: &mut [u8]) -> u64 {
     }
     if octets::same(name, b"sleep") {
         return firmware::tag_sleep(record);
-    }
-    if octets::same(name, b"frame") {
-        return firmware::tag_frame(record, answer);
     }
     UNKNOWN
 }

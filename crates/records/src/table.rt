@@ -3,11 +3,11 @@
 ghost use Prim.Native.Nat.{_≤_};
 ghost use lib.ListN.{length};
 ghost use Rattle.io.specs.Counts.{Counts};
+use hex_reading::Octets;
+use hex_reading::one_byte;
+use hex_reading::unhex;
 use libc::STDOUT_FILENO;
 use reading::Numeral;
-use reading::Octets;
-use reading::one_byte;
-use reading::unhex;
 use reading::unsigned;
 
 // The most bytes of a record or an argument.

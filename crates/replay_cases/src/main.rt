@@ -57,7 +57,7 @@ fn long_case(near: Session, name: &[u8], last: &[u8]) {
 
 // The session before line 999,999. What the lines before it print is thrown away.
 fn pressed() -> Session {
-    let start = replay::begin();
+    let start = session_ends::begin();
     let mut session = after(start, b"power=-20\ncomponents=3\nvolume=1\n");
     let mut presses = 0;
     while presses < PRESSES {

@@ -1,5 +1,5 @@
-// Replays a file to standard output: reads, feeds, writes. What is printed is the library `replay`'s to promise; no contract can speak of
-// bytes that the system reads or writes. Where the system fails, standard error says so, the answers so far stand, and nothing more is
+// Replays a file to standard output: reads, feeds, writes. What is printed is promised by the libraries `replay` and `session_ends`; no contract
+// can speak of bytes that the system reads or writes. Where the system fails, standard error says so, the answers so far stand, and nothing more is
 // printed: a file that could not be read to its end is not called malformed.
 use libc::STDOUT_FILENO;
 use session::Finished;
@@ -36,7 +36,7 @@ pub fn from_path(path: &[u8]) {
 
 // Replays an open file, from where it stands to its end, or until the run has ended. A message about it says `name`.
 pub fn from_descriptor(fd: i32, name: &[u8]) {
-    let mut session = replay::begin();
+    let mut session = session_ends::begin();
     let mut left = MOST_BYTES;
     while 0 < left {
         let turn = read_once(fd, name, session);
@@ -78,19 +78,35 @@ fn read_once(fd: i32, name: &[u8], session: Session) -> Turn {
     fed(session, &buf[..n])
 }
 
+// A session after some bytes of a piece: none where the run has ended or the system failed.
+struct Portion {
+    session: Session,
+    taken: usize,
+}
+
+// Feeds bytes, as many as a buffer's output allows, and writes what they print.
+fn fed_once(s: Session, bytes: &[u8]) -> Portion {
+    let mut out = io::large_buffer();
+    let next = replay::feed(s, bytes, &mut out);
+    let session = next.session;
+    let run = session.run;
+    if !written(&out, next.written) || run.ended {
+        return Portion { session, taken: 0 };
+    }
+    Portion {
+        session,
+        taken: next.taken,
+    }
+}
+
 // Feeds a piece and writes what it prints, a part of the output at a time.
 pub fn fed(s: Session, piece: &[u8]) -> Turn {
     let mut session = s;
     let mut at = 0;
     while at < piece.len() {
-        let mut out = io::large_buffer();
-        let next = replay::feed(session, &piece[at..], &mut out);
-        session = next.session;
-        let run = session.run;
-        if !written(&out, next.written) || run.ended {
-            return stopped(session);
-        }
-        let taken = next.taken;
+        let portion = fed_once(session, &piece[at..]);
+        session = portion.session;
+        let taken = portion.taken;
         if taken == 0 {
             return stopped(session);
         }
@@ -115,7 +131,7 @@ fn stopped(session: Session) -> Turn {
 // Writes what the end of the file prints.
 pub fn finish(s: Session) {
     let mut out = [0u8; 64];
-    let end = replay::finish(s, &mut out);
+    let end = session_ends::finish(s, &mut out);
     if let Finished::Wrote(n) = end {
         written(&out, n);
     }

@@ -1,4 +1,4 @@
--- A write as a whole: an ID that has no handler, and the judgement, from what the code tests.
+-- A write as a whole: the judgement, from what the code tests.
 use Prim.Native.Nat.{ℕ, _-_}
 use mathlib.Core.Path.{_≡_, sym, ap, _∙_}
 use mathlib.Core.Bool.{Bool, true, false, _||_}
@@ -7,7 +7,6 @@ use native.Mathlib.Omega.{arith}
 use lib.Dec.{ltb}
 use lib.ListN.{length, take, drop, length-drop}
 use lib.Seq.{take-all}
-use borrow.Author.Tests.{ne-eqb}
 use Rattle.wire.specs.Shape.{Request, request, parsed, sizeLegal, shapeLegal}
 use Rattle.wire.specs.declared.Head.{Head}
 use Rattle.unit.specs.Change.{spent}
@@ -26,16 +25,9 @@ use Rattle.authentication.specs.declared.Verdict.{Verdict}
 use Rattle.authentication.specs.Promises.{Ready, Judges}
 use Rattle.authentication.proofs.Judged.{refusal}
 use Rattle.sizes.specs.Sizes.{headSize}
-use Rattle.requests.specs.Write.{byId, needsKey, keyThere, judged, written}
-use Rattle.requests.proofs.Shaped.{sizes-legal, length-is, head-inside}
-
-module _ (u : TagUnit) (q : Request) (reach : ℕ) where
-  pub chosen-none : (q .id ≡ 0 → ⊥) → (q .id ≡ 1 → ⊥) → (q .id ≡ 2 → ⊥) → (q .id ≡ 3 → ⊥) → (q .id ≡ 4 → ⊥) → (q .id ≡ 5 → ⊥) → (q .id ≡ 6 → ⊥)
-      → (q .id ≡ 7 → ⊥) → (q .id ≡ 8 → ⊥) → byId u q reach ≡ invalidValue
-  unfolding byId
-  chosen-none e0 e1 e2 e3 e4 e5 e6 e7 e8 =
-      let i = q .id in
-      rw (ne-eqb i 0 e0, ne-eqb i 1 e1, ne-eqb i 2 e2, ne-eqb i 3 e3, ne-eqb i 4 e4, ne-eqb i 5 e5, ne-eqb i 6 e6, ne-eqb i 7 e7, ne-eqb i 8 e8)
+use Rattle.handlers.specs.ById.{byId}
+use Rattle.requests.specs.Write.{needsKey, keyThere, judged, written}
+use Rattle.write_shape.proofs.Shaped.{sizes-legal, length-is, head-inside}
 
 module _ (u : TagUnit) (w : List ℕ) (reach : ℕ) where
   pub judged-shapeless : shapeLegal w ≡ false → judged u w reach ≡ invalidValue

@@ -3,30 +3,14 @@
 use Prim.Native.Nat.{ℕ}
 use mathlib.Core.Bool.{Bool, cond, _||_}
 use mathlib.Core.List.{List}
-use lib.Dec.{eqb, ltb}
+use lib.Dec.{ltb}
 use Rattle.wire.specs.Shape.{Request, parsed, shapeLegal}
 use Rattle.unit.specs.declared.TagUnit.{TagUnit}
 use Rattle.unit.specs.Change.{spent, keyed}
 use Rattle.unit.specs.Ringable.{inside}
 use Rattle.unit.specs.Outcome.{Outcome, refusing}
 use Rattle.authentication.specs.Judgement.{Judgement, notAuthenticated, invalidValue, unless, concluded}
-use Rattle.account_reads.specs.Reads.{readParameters, readState}
-use Rattle.provisioning.specs.Provisioning.{setKey, clearKey, recoverKey}
-use Rattle.ringing.specs.Ringing.{ring, readSound}
-use Rattle.ringing.specs.Protecting.{protect, unprotect}
-
--- the request by its ID; only a ring looks at the reach
-unfoldable pub byId : TagUnit → Request → ℕ → Judgement
-byId u q reach =
-    cond (eqb (q .id) 0x00) (readParameters u q)
-    (cond (eqb (q .id) 0x01) (readState u q)
-    (cond (eqb (q .id) 0x02) (setKey u q)
-    (cond (eqb (q .id) 0x03) (clearKey u q)
-    (cond (eqb (q .id) 0x04) (recoverKey u q)
-    (cond (eqb (q .id) 0x05) (ring u q reach)
-    (cond (eqb (q .id) 0x06) (readSound u q)
-    (cond (eqb (q .id) 0x07) (protect u q)
-    (cond (eqb (q .id) 0x08) (unprotect u q) invalidValue))))))))
+use Rattle.handlers.specs.ById.{byId}
 
 -- "IDs 0x03 to 0x08 without an identity key: 0x80"
 abbrev pub needsKey : ℕ

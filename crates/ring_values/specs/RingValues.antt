@@ -1,8 +1,7 @@
--- The values of a ring, 0x05: what is asked for, whether it is legal, what it comes to on what sounds, and the bytes that tell what sounds.
+-- The values of a ring, 0x05: what is asked for, whether it is legal, and the bytes that tell what sounds.
 use Prim.Native.Nat.{ℕ}
 use mathlib.Core.Bool.{Bool, false, cond, not, _&&_, _||_}
 use mathlib.Core.List.{List, _∷_}
-use lib.Bits.{bitAnd}
 use lib.Dec.{eqb, leb}
 use lib.ListN.{getD, take, drop}
 use Rattle.laws.specs.Bytes.{bigEndian, number}
@@ -11,7 +10,6 @@ use Rattle.unit.specs.declared.Sound.{Sound}
 use Rattle.unit.specs.declared.Protection.{Protection}
 use Rattle.sizes.specs.Sizes.{highestVolume, longestRing}
 use Rattle.unit.specs.Ringable.{ringable, inside}
-use Rattle.ring_values.specs.declared.Decision.{Decision}
 
 -- "For 0x05 with protection and skip on, any tag passes"
 abbrev pub skips : Protection → Bool
@@ -53,26 +51,6 @@ ringLegal s a =
 -- "Volume is held as 0 where not selectable"
 abbrev pub heldVolume : Settings → List ℕ → ℕ
 heldVolume s a = cond (eqb (s .selectable) 0) 0 (askedVolume a)
-
--- "unreachable parts are dropped from the mask"
-abbrev pub reached : ℕ → ℕ → ℕ
-reached mask reach = bitAnd mask reach
-
--- "every requested part is out of reach", "every sounding part is unreachable"
-abbrev pub outOfReach : ℕ → ℕ → Bool
-outOfReach mask reach = eqb (reached mask reach) 0
-
--- "A stop fails when every sounding part is unreachable, and otherwise silences all; while silent it succeeds as before"
-abbrev pub stopDecision : Sound → ℕ → Decision
-stopDecision Sound.Silent reach = Decision.Stopped
-stopDecision (Sound.Ringing mask volume left) reach = cond (outOfReach mask reach) Decision.Failed Decision.Stopped
-
--- "The ring decision now answers started, or failed (status 0x01) when every requested part is out of reach": on what sounds, with the mask
--- that is asked for, where 0 asks for a stop, and the mask of reachable parts
-unfoldable pub ringDecision : Sound → ℕ → ℕ → Decision
-ringDecision sound mask reach =
-    cond (eqb mask 0) (stopDecision sound reach)
-    (cond (outOfReach mask reach) Decision.Failed (Decision.Started (reached mask reach)))
 
 -- "mask and tenths left; zeros when silent"
 abbrev pub soundState : Sound → List ℕ

@@ -1,30 +1,22 @@
-// The values of a ring: what is asked for, whether it is legal, what it comes to on what sounds, and the bytes that tell what sounds. No unit and no key.
+// The values of a ring: what is asked for, whether it is legal, and the bytes that tell what sounds. No unit and no key.
 ghost use mathlib.Core.Path.{_≡_};
 ghost use mathlib.Core.List.{_∷_};
 ghost use Prim.Native.Nat.{_≤_};
 ghost use lib.ListN.{length};
 ghost use Rattle.sizes.specs.Sizes.{mostComponents};
 ghost use Rattle.wire.specs.Signing.{failed};
-ghost use Rattle.ring_values.specs.RingValues.{skips as isSkipped, allOfNone, askedTimeout, ringMask, ringLegal, heldVolume, stopDecision, ringDecision, soundState, ringData};
+ghost use Rattle.ring_values.specs.RingValues.{skips as isSkipped, allOfNone, askedTimeout, ringMask, ringLegal, heldVolume, soundState, ringData};
 use sizes::HIGHEST_VOLUME;
 use sizes::LONGEST_RING;
 use unit::Protection;
 use unit::Settings;
 use unit::Sound;
 use unit::mask;
-use wire::answer;
 
 // The mask that means all components.
 const WHOLE_MASK: u8 = 0xFF;
 
 const STATE_SIZE: usize = 3;
-
-// What a legal 0x05 comes to: these parts ring, nothing sounds any more, or what sounds is left as it is.
-pub enum Decision {
-    Started(u8),
-    Stopped,
-    Failed,
-}
 
 // Whether a ring needs no tag: under protection with the skip flag.
 pub fn skips(protection: Protection) -> bool
@@ -102,50 +94,17 @@ pub fn held_volume(s: Settings, additional: &[u8]) -> u8
     additional[3]
 }
 
-// A stop: fails where no part that sounds can be reached.
-pub fn stop_decision(sound: Sound, reach: u8) -> Decision
-    ensures { λ r. ⌜ r ≡ stopDecision sound reach ⌝ }
-{
-    match sound {
-        Sound::Silent => Decision::Stopped,
-        Sound::Ringing {
-            mask,
-            volume: _,
-            left: _,
-        } => {
-            if mask & reach == 0 {
-                return Decision::Failed;
-            }
-            Decision::Stopped
-        }
-    }
-}
-
-// A ring, or with mask 0 a stop: parts out of reach are left out, and with none in reach it fails.
-pub fn ring_decision(sound: Sound, ring: u8, reach: u8) -> Decision
-    ensures { λ r. ⌜ r ≡ ringDecision sound ring reach ⌝ }
-{
-    if ring == 0 {
-        return stop_decision(sound, reach);
-    }
-    let parts = ring & reach;
-    if parts == 0 {
-        return Decision::Failed;
-    }
-    Decision::Started(parts)
-}
-
 // The data of a notice of failure: what sounds on.
-pub fn fail_data(sound: Sound) -> [u8; answer::NOTICE_SIZE]
+pub fn fail_data(sound: Sound) -> [u8; answers::NOTICE_SIZE]
     ensures { λ r. ⌜ r ≡ failed ∷ soundState sound ⌝ }
 {
     match sound {
-        Sound::Silent => answer::notice_data(answer::FAILED, 0, 0),
+        Sound::Silent => answers::notice_data(answers::FAILED, 0, 0),
         Sound::Ringing {
             mask,
             volume: _,
             left,
-        } => answer::notice_data(answer::FAILED, mask, left),
+        } => answers::notice_data(answers::FAILED, mask, left),
     }
 }
 

@@ -1,2 +1,1 @@
 pub mod Rings
-pub mod Protects

@@ -9,8 +9,9 @@ use Rattle.unit.specs.Change.{withSound, silenced}
 use Rattle.unit.specs.declared.TagUnit.{TagUnit}
 use Rattle.unit.specs.declared.Sound.{Sound}
 use Rattle.authentication.specs.Judgement.{accepts, notAuthenticated, invalidValue, lastNonce, tagged, answered}
-use Rattle.ring_values.specs.RingValues.{skips, askedTimeout, ringMask, ringLegal, heldVolume, ringDecision, soundState}
-use Rattle.ring_values.specs.declared.Decision.{Decision}
+use Rattle.ring_values.specs.RingValues.{skips, askedTimeout, ringMask, ringLegal, heldVolume, soundState}
+use Rattle.ring_decisions.specs.Decisions.{ringDecision}
+use Rattle.ring_decisions.specs.declared.Decision.{Decision}
 use Rattle.ringing.specs.Ringing.{rung, ring, readSound}
 
 module _ (u : TagUnit) where

@@ -1,2 +1,1 @@
 pub mod Ringing
-pub mod Protecting

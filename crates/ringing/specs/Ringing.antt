@@ -9,8 +9,9 @@ use Rattle.unit.specs.declared.TagUnit.{TagUnit}
 use Rattle.unit.specs.declared.Sound.{Sound}
 use Rattle.unit.specs.Change.{withSound, silenced, keyInForce}
 use Rattle.authentication.specs.Judgement.{Judgement, accepts, notAuthenticated, invalidValue, unless, lastNonce, tagged, answered}
-use Rattle.ring_values.specs.RingValues.{skips, askedTimeout, ringMask, ringLegal, heldVolume, ringDecision, soundState}
-use Rattle.ring_values.specs.declared.Decision.{Decision}
+use Rattle.ring_values.specs.RingValues.{skips, askedTimeout, ringMask, ringLegal, heldVolume, soundState}
+use Rattle.ring_decisions.specs.Decisions.{ringDecision}
+use Rattle.ring_decisions.specs.declared.Decision.{Decision}
 
 -- "its notice carries the old mask and tenths left", signed with the nonce of its write
 abbrev pub failNotice : TagUnit → List ℕ

@@ -1,4 +1,4 @@
--- What the functions that close a line promise, over the types of the code. No promise of a public call cites it.
+-- What the inner functions of `session`, `pieces` and `replay` promise, over the types of the code. No promise of a public call cites it.
 use Prim.Native.Nat.{ℕ, _+_, _≤_}
 use mathlib.Core.Path.{_≡_}
 use mathlib.Core.Bool.{Bool, true, false}

@@ -1,4 +1,5 @@
-// A session file's run: the record of it, and what a closed line does to it. How the bytes of a file are fed to it stands in `replay`.
+// A session file's run: the record of it, and what a closed line does to it. Its two ends stand in `session_ends`; how the bytes of a file are
+// fed to it, in `pieces` and `replay`.
 use lines::Next;
 use unit::TagUnit;
 

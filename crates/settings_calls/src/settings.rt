@@ -12,7 +12,6 @@ use unit::Settings;
 use unit::Step;
 use unit::change;
 use unit::end;
-use unit::well_formed;
 
 // The end of a new unit that is refused: a record that is not well formed.
 fn no_unit() -> Step

@@ -9,7 +9,9 @@ use Rattle.unit.specs.Outcome.{Outcome, giving, formed, answering}
 use Rattle.requests.specs.Write.{written}
 use Rattle.time.specs.Time.{tenths}
 use Rattle.advertising.specs.Showing.{showing}
-use Rattle.own_calls.specs.Own.{issuing, pressed, keeping, disconnected}
+use Rattle.read_call.specs.Read.{issuing}
+use Rattle.press_call.specs.Press.{pressed}
+use Rattle.key_calls.specs.Keys.{keeping, disconnected}
 use Rattle.settings_calls.specs.Settings.{charged}
 
 -- what a phone writes, and the mask of reachable parts that the host lends with it

@@ -8,10 +8,8 @@ ghost use Rattle.sleep.specs.Sleep.{Sleeps};
 ghost use Rattle.settings_calls.specs.Settings.{newUnit};
 ghost use Rattle.tag.specs.Calls.{call, elapsed as elapsedOf};
 ghost use Rattle.tag.specs.Calls as of;
-use own_calls::accounts;
-use own_calls::connection;
-use own_calls::nonce;
-use own_calls::press;
+use key_calls::accounts;
+use key_calls::connection;
 use settings_calls::battery;
 use settings_calls::pairing;
 use settings_calls::settings;
@@ -22,7 +20,6 @@ use unit::Refusal;
 use unit::Step;
 use unit::TagUnit;
 use unit::end;
-use unit::well_formed;
 
 // A new unit, fresh, with its settings. Refusals: 1 for settings out of range; the record given back is then not well formed.
 pub fn new_unit(power: i32, components: u32, selectable: u32) -> Step
@@ -40,7 +37,7 @@ pub fn read(u: TagUnit, lent: &[u8], answer: &mut [u8]) -> Step
         return end::refuse(u, Refusal::NoRoom);
     }
     if well_formed::well_formed(u) {
-        return nonce::issued(u, lent, answer);
+        return read_call::issued(u, lent, answer);
     }
     end::refuse(u, Refusal::NotWellFormed)
 }
@@ -67,7 +64,7 @@ pub fn button(u: TagUnit, answer: &mut [u8]) -> Step
         return end::refuse(u, Refusal::NoRoom);
     }
     if well_formed::well_formed(u) {
-        return press::pressed(u, answer);
+        return press_call::pressed(u, answer);
     }
     end::refuse(u, Refusal::NotWellFormed)
 }

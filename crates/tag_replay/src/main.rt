@@ -1,5 +1,5 @@
 // Replays a session file: standard input, or the file that its one argument names, and prints what the tag answers. The work is in the
-// libraries `replay` (from bytes to bytes) and `replay_file` (reads and writes).
+// libraries `session_ends` and `replay` (from bytes to bytes) and `replay_file` (reads and writes).
 use libc::STDERR_FILENO;
 
 fn main() {

@@ -1,7 +1,7 @@
 // Time that passes, any number of tenths at once.
 ghost use mathlib.Core.Path.{_≡_};
 ghost use mathlib.Core.Bool.{true};
-ghost use Prim.Native.Nat.{_-_, _≤_, _<_};
+ghost use Prim.Native.Nat.{_-_, _≤_};
 ghost use lib.ListN.{length};
 ghost use Rattle.unit.specs.declared.Reply.{Reply};
 ghost use Rattle.sizes.specs.Sizes.{answerRoom};
@@ -15,7 +15,6 @@ use unit::Reply;
 use unit::Sound;
 use unit::TagUnit;
 use unit::change;
-use wire::answer;
 
 // A step of time: the unit, the end, and the tenth, counted from the call's start, at which a ring ended, or 0.
 pub struct Passed {
@@ -103,7 +102,7 @@ pub fn elapse(u: TagUnit, tenths: u32, answer: &mut [u8]) -> Passed
             }
             let k = u.identity;
             let identity = k.bytes;
-            let count = answer::stop_notice(identity, nonce, answer::TIMED_OUT, answer);
+            let count = answers::stop_notice(identity, nonce, answers::TIMED_OUT, answer);
             Passed {
                 unit: change::silenced(after),
                 reply: Reply::Done(count),

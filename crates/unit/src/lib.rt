@@ -1,5 +1,5 @@
 // What a tag unit holds: the unit record of the paper's "What a unit holds", by value. Any values at all may stand in a record;
-// `well_formed` judges them.
+// the crate `well_formed` judges them.
 
 use nonces::Nonces;
 use sizes::IDENTITY_KEY_SIZE;
@@ -9,7 +9,6 @@ use sizes::NONCE_SIZE;
 pub mod change;
 pub mod end;
 pub mod mask;
-pub mod well_formed;
 
 // Calibrated power in dBm at 0 m, the number of components that can ring, and whether the volume is selectable (0 or 1).
 pub struct Settings {
@@ -75,7 +74,7 @@ pub struct TagUnit {
     pub battery: u8,
 }
 
-// The refusals of the paper's list; `number` in specs/ gives each its number.
+// The refusals of the paper's list; `refusalNumber` in specs/Refusals gives each its number.
 pub enum Refusal {
     NotAuthenticated,
     InvalidValue,

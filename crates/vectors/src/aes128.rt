@@ -7,9 +7,9 @@ const ZEROS: [u8; 16] = [0u8; 16];
 // Prints a block encrypted, and that decrypted again.
 fn there_and_back(key: &[u8], block: &[u8]) {
     let mut there = [0u8; 16];
-    primitive_calls::aes128_encrypt(key, block, &mut there);
+    firmware::tag_aes128_encrypt(key, block, &mut there);
     let mut back = [0u8; 16];
-    primitive_calls::aes128_decrypt(key, &there, &mut back);
+    firmware::tag_aes128_decrypt(key, &there, &mut back);
     print::hex(&there);
     print::text(b" ");
     print::hex(&back);

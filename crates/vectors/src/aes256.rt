@@ -6,7 +6,7 @@ use crate::print;
 // Prints a block encrypted.
 fn there(key: [u8; 32], block: [u8; 16]) {
     let mut there = [0u8; 16];
-    primitive_calls::aes256_encrypt(&key, &block, &mut there);
+    firmware::tag_aes256_encrypt(&key, &block, &mut there);
     print::hex(&there);
     print::text(b"\n");
 }

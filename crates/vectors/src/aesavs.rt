@@ -11,10 +11,10 @@ fn once(way: Way, key: [u8; 16], block: [u8; 16]) -> [u8; 16] {
     let mut done = [0u8; 16];
     match way {
         Way::Encrypt => {
-            primitive_calls::aes128_encrypt(&key, &block, &mut done);
+            firmware::tag_aes128_encrypt(&key, &block, &mut done);
         }
         Way::Decrypt => {
-            primitive_calls::aes128_decrypt(&key, &block, &mut done);
+            firmware::tag_aes128_decrypt(&key, &block, &mut done);
         }
     }
     done
@@ -68,12 +68,18 @@ struct Last {
     block: [u8; 16],
 }
 
+fn once256(key: [u8; 32], block: [u8; 16]) -> [u8; 16] {
+    let mut done = [0u8; 16];
+    firmware::tag_aes256_encrypt(&key, &block, &mut done);
+    done
+}
+
 fn chained256(key: [u8; 32], start: [u8; 16]) -> Last {
     let mut before = start;
     let mut block = start;
     let mut left: u32 = 1000;
     while 0 < left {
-        let next = primitives::encrypt256(key, block);
+        let next = once256(key, block);
         before = block;
         block = next;
         left -= 1;

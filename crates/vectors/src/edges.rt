@@ -1,8 +1,11 @@
-// Sizes at the edges of what the public calls take, and beyond. A row has the call, the bytes of its key, of its message or block and of its answer, `ok` or
+// Sizes at the edges of what the exported calls take, and beyond. A row has the call, the bytes of its key, of its message or block and of its answer, `ok` or
 // refusal 7, and the answer after the call: ee where nothing was written. Key and message are the first bytes of one sequence. compare/vectors.py
 // has the answers from hashlib, hmac and OpenSSL.
 use crate::print;
-use primitive_calls::Ending;
+use lent_answer::Ending;
+
+// What an exported call gives for a refusal, beside its number.
+const REFUSED: u64 = 256;
 
 enum Call {
     Hash,
@@ -23,13 +26,13 @@ fn sequence() -> [u8; 65536] {
     bytes
 }
 
-fn called(call: Call, key: &[u8], message: &[u8], answer: &mut [u8]) -> Ending {
+fn called(call: Call, key: &[u8], message: &[u8], answer: &mut [u8]) -> u64 {
     match call {
-        Call::Hash => primitive_calls::sha256(message, answer),
-        Call::Authenticate => primitive_calls::hmac_sha256(key, message, answer),
-        Call::Encrypt => primitive_calls::aes128_encrypt(key, message, answer),
-        Call::Decrypt => primitive_calls::aes128_decrypt(key, message, answer),
-        Call::EncryptLong => primitive_calls::aes256_encrypt(key, message, answer),
+        Call::Hash => firmware::tag_sha256(message, answer),
+        Call::Authenticate => firmware::tag_hmac_sha256(key, message, answer),
+        Call::Encrypt => firmware::tag_aes128_encrypt(key, message, answer),
+        Call::Decrypt => firmware::tag_aes128_decrypt(key, message, answer),
+        Call::EncryptLong => firmware::tag_aes256_encrypt(key, message, answer),
     }
 }
 
@@ -43,14 +46,23 @@ fn name(call: Call) {
     }
 }
 
-// Prints how a call ended, and its answer.
-fn ending(end: Ending, answer: &[u8]) {
-    match end {
-        Ending::Done => print::text(b"ok "),
-        Ending::WrongSize => print::text(b"07 "),
+// Prints how an exported call ended, and its answer.
+fn ending(code: u64, answer: &[u8]) {
+    if code < REFUSED {
+        print::text(b"ok ");
+    } else {
+        print::refusal(code - REFUSED);
     }
     print::hex(answer);
     print::text(b"\n");
+}
+
+// The same of the call over parts, which is not exported: its end as a number.
+fn code_of(end: Ending) -> u64 {
+    match end {
+        Ending::Done => 32,
+        Ending::WrongSize => REFUSED + 7,
+    }
 }
 
 // Prints a row.
@@ -83,14 +95,14 @@ fn parts(bytes: &[u8], key: u32, head: u32, tail: u32, last: u32) {
     let t = io::count(tail as isize, bytes);
     let l = io::count(last as isize, bytes);
     let mut answer = [0xeeu8; 32];
-    let end = primitive_calls::hmac_sha256_parts(
+    let end = hash_calls::hmac_sha256_parts(
         &bytes[..k],
         &bytes[..h],
         &bytes[..t],
         &bytes[..l],
         &mut answer,
     );
-    ending(end, &answer);
+    ending(code_of(end), &answer);
 }
 
 fn hashes(bytes: &[u8]) {

@@ -1,5 +1,5 @@
-// Published vectors, and sizes at the edges, run through the public calls of the primitives. What is printed is held to the values in `stdout`: the
-// publishers', and those that compare/vectors.py has from independent programs.
+// Published vectors, and sizes at the edges, run through the exported calls of the primitives, those that a host links. What is printed is held to the
+// values in `stdout`: the publishers', and those that compare/vectors.py has from independent programs.
 mod aes128;
 mod aes256;
 mod aesavs;

@@ -17,6 +17,12 @@ pub fn first_half(bytes: &[u8]) {
     }
 }
 
+// The number of a refusal, two digits, and a space.
+pub fn refusal(n: u64) {
+    io::print_hex(STDOUT_FILENO, n, 2);
+    text(b" ");
+}
+
 // A number in decimal, and a space.
 pub fn number(n: u32) {
     io::print_decimal(STDOUT_FILENO, n as u64);

@@ -5,7 +5,7 @@ use crate::print;
 // Prints the name of a vector and the digest of its message.
 pub fn hashes(name: &[u8], message: &[u8]) {
     let mut digest = [0u8; 32];
-    primitive_calls::sha256(message, &mut digest);
+    firmware::tag_sha256(message, &mut digest);
     print::text(name);
     print::hex(&digest);
     print::text(b"\n");
@@ -14,7 +14,7 @@ pub fn hashes(name: &[u8], message: &[u8]) {
 // Prints the name of a vector and the tag of its message.
 fn authenticates(name: &[u8], key: &[u8], message: &[u8]) {
     let mut tag = [0u8; 32];
-    primitive_calls::hmac_sha256(key, message, &mut tag);
+    firmware::tag_hmac_sha256(key, message, &mut tag);
     print::text(name);
     print::hex(&tag);
     print::text(b"\n");
@@ -23,7 +23,7 @@ fn authenticates(name: &[u8], key: &[u8], message: &[u8]) {
 // The same of a tag that is truncated to 16 bytes.
 fn authenticates_half(name: &[u8], key: &[u8], message: &[u8]) {
     let mut tag = [0u8; 32];
-    primitive_calls::hmac_sha256(key, message, &mut tag);
+    firmware::tag_hmac_sha256(key, message, &mut tag);
     print::text(name);
     print::first_half(&tag);
     print::text(b"\n");

@@ -65,7 +65,7 @@ fn behind(three: [u8; 96], digest: [u8; 32]) -> [u8; 96] {
 
 fn digest_of(three: [u8; 96]) -> [u8; 32] {
     let mut digest = [0u8; 32];
-    primitive_calls::sha256(&three, &mut digest);
+    firmware::tag_sha256(&three, &mut digest);
     digest
 }
 

@@ -5,8 +5,8 @@ use mathlib.Core.List.{[], _∷_, _++_}
 use native.Mathlib.Omega.{arith}
 use lib.ListN.{length}
 use Rattle.laws.proofs.Answered.{wrote}
-use Rattle.frame_reader.specs.Reader.{readFrameWithR}
-use Rattle.frame_reader.proofs.Scanning.{wrong-read-with-r, wrong-size-read, frame-read-with-r, wrong-small-with-r}
+use Rattle.frame_opener.specs.Opener.{readFrameWithR}
+use Rattle.frame_opener.proofs.Scanning.{wrong-read-with-r, wrong-size-read, frame-read-with-r, wrong-small-with-r}
 use Rattle.desk.specs.Exported.{partBytes, openedBytes, written}
 use Rattle.desk.proofs.Exporting.{one-more, no-room, exports-refusal, exports-bytes}
 use borrow.Author.Needs.{needs}

@@ -6,7 +6,7 @@ use borrow.Author.Tests.{eqb-true}
 use borrow.Author.Needs.{needs}
 use Rattle.laws.proofs.Flags.{and-left}
 use Rattle.primitives.proofs.Laws.{length-AES256}
-use Rattle.primitive_calls.specs.Calls.{encrypted256}
+use Rattle.cipher_calls.specs.Calls.{encrypted256}
 use Rattle.primitives.specs.Standards.{AES256}
 use Rattle.firmware.proofs.Exporting.{exported-digest}
 use Rattle.firmware.proofs.tag_aes256_encrypt.Statement.{statement}

@@ -4,7 +4,7 @@ use lib.ListN.{length}
 use lib.Dec.{eqb, leb}
 use borrow.Author.Needs.{needs}
 use Rattle.primitives.proofs.Laws.{length-HMAC}
-use Rattle.primitive_calls.specs.Calls.{authenticated}
+use Rattle.hash_calls.specs.Calls.{authenticated}
 use Rattle.primitives.specs.Standards.{HMAC}
 use Rattle.firmware.proofs.Exporting.{exported-digest}
 use Rattle.firmware.proofs.tag_hmac_sha256.Statement.{statement}

@@ -4,7 +4,7 @@ use lib.ListN.{length}
 use lib.Dec.{eqb, leb}
 use borrow.Author.Needs.{needs}
 use Rattle.primitives.proofs.Laws.{length-SHA256}
-use Rattle.primitive_calls.specs.Calls.{hashed}
+use Rattle.hash_calls.specs.Calls.{hashed}
 use Rattle.primitives.specs.Standards.{SHA256}
 use Rattle.firmware.proofs.Exporting.{exported-digest}
 use Rattle.firmware.proofs.tag_sha256.Statement.{statement}

@@ -1,4 +1,4 @@
--- `blocks::block_at` meets its contract: a part of sixteen bytes, as an array.
+-- `key_blocks::block_at` meets its contract: a part of sixteen bytes, as an array.
 use mathlib.Core.Path.{_≡_}
 use Prim.Native.Nat.{_+_, _-_}
 use native.Mathlib.Omega.{arith}

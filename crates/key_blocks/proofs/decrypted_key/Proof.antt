@@ -1,4 +1,4 @@
--- `blocks::decrypted_key` meets its contract: the two blocks under one key.
+-- `key_blocks::decrypted_key` meets its contract: the two blocks under one key.
 use Rattle.key_blocks.specs.KeyBlocks.{decryptedKey}
 use borrow.Author.Needs.{needs}
 use Rattle.key_blocks.proofs.decrypted_key.Statement.{statement}

@@ -1,4 +1,4 @@
--- `blocks::encrypted_key` meets its contract: the two blocks under one key.
+-- `key_blocks::encrypted_key` meets its contract: the two blocks under one key.
 use Rattle.key_blocks.specs.KeyBlocks.{encryptedKey}
 use borrow.Author.Needs.{needs}
 use Rattle.key_blocks.proofs.encrypted_key.Statement.{statement}

@@ -4,10 +4,10 @@ use borrow.Author.Needs.{needs}
 use borrow.Author.Tests.{not-true, not-false}
 use lib.ListN.{length, drop, length-take}
 use native.Mathlib.Omega.{arith}
-use Rattle.reading.specs.Reading.{bytes}
+use Rattle.hex_reading.specs.Hex.{bytes}
 use Rattle.lines.specs.Lines.{given}
 use Rattle.lines.specs.Promises.{lineOf}
-use Rattle.reading.specs.Values.{octetsOf}
+use Rattle.hex_reading.specs.HexValues.{octetsOf}
 use Rattle.lines.proofs.KeyedLines.{key-fits, unkeyed-line, value-line}
 use Rattle.lines.proofs.octets.Statement.{statement}
 use Rattle.lines.proofs.octets.Tie as tie

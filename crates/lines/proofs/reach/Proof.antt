@@ -4,7 +4,7 @@ use borrow.Author.Tests.{not-true, not-false}
 use Prim.Native.Nat.{ℕ}
 use mathlib.Core.List.{List}
 use mathlib.Core.Path.{refl}
-use Rattle.reading.specs.Reading.{oneByte}
+use Rattle.hex_reading.specs.Hex.{oneByte}
 use Rattle.notation.specs.Text.{ascii}
 use Rattle.reading.specs.Values.{numeralOf}
 use Rattle.tag.specs.Calls.{write}

@@ -1,7 +1,7 @@
 -- `requests::write` meets its contract: reach, shape, live nonce and identity key are tested in this order, and then the handler judges.
 use Rattle.laws.proofs.Flags.{granted, refuted}
 use Rattle.requests.proofs.Chosen.{reach-refused, judged-shapeless, judged-dead, judged-keyless, judged-by-id, write-refused, key-there, write-ready, write-judged}
-use Rattle.requests.proofs.Shaped.{head-inside}
+use Rattle.write_shape.proofs.Shaped.{head-inside}
 use Rattle.unit.specs.declared.Refusal.{Refusal}
 use Rattle.unit.proofs.Lines.{lines}
 use Rattle.unit.proofs.Masks.{inside-small}

@@ -1,4 +1,4 @@
--- `sounding::all_of_none` meets its contract: where all are asked for, the mask is that of all.
+-- `ring_values::all_of_none` meets its contract: where all are asked for, the mask is that of all.
 use Rattle.ring_values.proofs.RingValues.{none-asked, some-asked}
 use borrow.Author.Needs.{needs}
 use Rattle.ring_values.proofs.all_of_none.Statement.{statement}

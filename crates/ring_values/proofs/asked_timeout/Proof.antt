@@ -1,4 +1,4 @@
--- `sounding::asked_timeout` meets its contract: two bytes, the high one first.
+-- `ring_values::asked_timeout` meets its contract: two bytes, the high one first.
 use Rattle.ring_values.proofs.RingValues.{timeout-is}
 use borrow.Author.Needs.{needs}
 use native.Mathlib.Omega.{arith}

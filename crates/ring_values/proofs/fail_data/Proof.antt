@@ -1,4 +1,4 @@
--- `sounding::fail_data` meets its contract, a case of the sound each.
+-- `ring_values::fail_data` meets its contract, a case of the sound each.
 use borrow.Author.Needs.{needs}
 use Rattle.ring_values.proofs.fail_data.Statement.{statement}
 use Rattle.ring_values.proofs.fail_data.Tie as tie

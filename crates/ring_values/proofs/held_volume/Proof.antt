@@ -1,4 +1,4 @@
--- `sounding::held_volume` meets its contract.
+-- `ring_values::held_volume` meets its contract.
 use borrow.Author.Needs.{needs}
 use borrow.Author.Tests.{eq-eqb, ne-eqb}
 use Rattle.ring_values.proofs.held_volume.Statement.{statement}

@@ -1,4 +1,4 @@
--- `sounding::ring_legal` meets its contract, test by test.
+-- `ring_values::ring_legal` meets its contract, test by test.
 use Rattle.laws.proofs.Flags.{granted, refuted}
 use mathlib.Core.Path.{sym, _∙_}
 use Rattle.ring_values.proofs.RingValues.{legal-outside, legal-nothing, legal-volume, legal-stop, legal-none, legal-some}

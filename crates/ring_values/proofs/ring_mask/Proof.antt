@@ -1,4 +1,4 @@
--- `sounding::ring_mask` meets its contract.
+-- `ring_values::ring_mask` meets its contract.
 use borrow.Author.Needs.{needs}
 use borrow.Author.Tests.{eq-eqb, ne-eqb}
 use lib.ListN.{getD}

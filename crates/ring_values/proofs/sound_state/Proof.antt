@@ -1,4 +1,4 @@
--- `sounding::sound_state` meets its contract, a case of the sound each.
+-- `ring_values::sound_state` meets its contract, a case of the sound each.
 use mathlib.Core.Path.{_≡_, sym, ap, _∙_}
 use mathlib.Core.List.{List, _∷_}
 use Prim.Native.Nat.{ℕ}

@@ -1,4 +1,4 @@
--- `shape::size_legal` meets its contract: each arm by the row of its IDs.
+-- `shapes::size_legal` meets its contract: each arm by the row of its IDs.
 use mathlib.Core.Path.{refl}
 use mathlib.Core.Logic.{inl, inr, ⊎-elim}
 use Prim.Native.Nat.{_≤_}

@@ -1,6 +1,6 @@
 -- `tag::disconnect` meets its contract: a well-formed unit is the one after the connection, another is refused.
 use mathlib.Core.Path.{_∙_}
-use Rattle.own_calls.specs.Own.{disconnected}
+use Rattle.key_calls.specs.Keys.{disconnected}
 use Rattle.tag.specs.Calls.{guarded, call, own}
 use Rattle.tag.proofs.Guards.{formed-own, formed-refuses}
 use Rattle.unit.proofs.Ends.{refused-completes, done-completes}

@@ -1,11 +1,10 @@
 -- `base::multiple_x` meets its contract: the point goes into its forms, and x comes out of its own.
 use mathlib.Core.Path.{_∙_}
 use lib.ListN.{length}
-use Rattle.field.proofs.Forms.{form-ones, value-ones}
+use Rattle.field.proofs.Forms.{form-ones, value-ones, holds-as}
 use Rattle.points.proofs.Rules.{side-by}
 use denote.Ref.{now}
 use Rattle.limbs.specs.Limbs.{value}
-use Rattle.field.proofs.Forms.{holds-as}
 use borrow.Author.Needs.{needs}
 use Rattle.curves.proofs.base.multiple_x.Statement.{statement}
 use Rattle.curves.proofs.base.multiple_x.Tie as tie

@@ -12,8 +12,8 @@ abbrev μ-loop : tie.MeasureT-loop
 loop-holds : tie.Need-loop-holds Inv-loop μ-loop
 loop-holds c = search needs
 
-encrypt256-requires : tie.Need-encrypt256-requires Inv-loop μ-loop
-encrypt256-requires c κs = search needs
+once256-requires : tie.Need-once256-requires Inv-loop μ-loop
+once256-requires c κs = search needs
 
 sub-left : tie.Need-sub-left Inv-loop μ-loop
 sub-left c = search needs
@@ -30,4 +30,4 @@ returns c = search needs
 pub chained256-spec : {M : Type 1} → statement M
 chained256-spec =
     tie.close
-    (tie.spec Inv-loop μ-loop loop-holds encrypt256-requires sub-left loop-less loop-again returns)
+    (tie.spec Inv-loop μ-loop loop-holds once256-requires sub-left loop-less loop-again returns)

@@ -1,0 +1,2 @@
+pub mod Unhexed
+pub mod OneByte
