@@ -5,17 +5,15 @@ ghost use lib.ListN.{length};
 ghost use Rattle.reading.specs.Values.{numeralOf};
 ghost use Rattle.hex_reading.specs.Hex.{hexValue, oneByte};
 ghost use Rattle.hex_reading.specs.HexValues.{nibbleOf, Unhexes};
+use reading::NINE;
 use reading::Numeral;
+use reading::ZERO;
 
 // How many bytes were read, or that the text is wrong.
 pub enum Octets {
     Count(usize),
     Wrong,
 }
-
-const ZERO: u8 = 48;
-
-const NINE: u8 = 57;
 
 // No nibble.
 const WRONG: u8 = 16;

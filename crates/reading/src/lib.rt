@@ -20,9 +20,10 @@ pub enum Switch {
     Wrong,
 }
 
-const ZERO: u8 = 48;
+// The first and the last decimal digit.
+pub const ZERO: u8 = 48;
 
-const NINE: u8 = 57;
+pub const NINE: u8 = 57;
 
 const MINUS: u8 = 45;
 
