@@ -1,8 +1,9 @@
+#![tactic(auto)]
 // The account keys in order of use, the most recently used first. Inner calls: each says what it asks of its caller.
 ghost use Rattle.std.specs.Prelude.{◌≡◌, true, [], ◌<◌, length, get_or};
 ghost use Rattle.sizes.specs.Sizes.{account_key_size, most_keys};
 ghost use Rattle.unit.specs.WellFormed.{accounts_legal, held_keys};
-ghost use Rattle.account_keys.specs.Order.{key_first, followed as followedTo, key_used, least_used, place_for, key_added};
+ghost use Rattle.account_keys.specs.Order.{key_first, followed as followed_to, key_used, least_used, place_for, key_added};
 
 use sizes::{ACCOUNT_KEY_SIZE, KEYS_ROOM, MOST_KEYS};
 use unit::{Accounts, Owner};
@@ -22,7 +23,7 @@ fn key_first(keys: [u8; KEYS_ROOM], place: usize, key: [u8; ACCOUNT_KEY_SIZE]) -
 // Where the owner stands once a key came first and what stood at a place is gone.
 fn followed(owner: Owner, place: usize) -> Owner
     requires { place < most_keys }
-    ensures { result ≡ followedTo place owner }
+    ensures { result ≡ followed_to place owner }
 {
     match owner {
         Owner::Nobody => Owner::Nobody,

@@ -1,3 +1,4 @@
+#![tactic(auto)]
 // A point in Jacobian coordinates and one in affine coordinates, added.
 ghost use Rattle.curve_laws.specs.Modulo.{times, minus};
 ghost use Rattle.curve_laws.proofs.Jacobian.{add_with, added};

@@ -1,3 +1,4 @@
+#![tactic(auto)]
 // The advertised frame of a unit: its identifier of the current window, its protection and its battery level.
 ghost use Rattle.std.specs.Prelude.{◌≡◌, ◌≤◌, length};
 ghost use Rattle.sizes.specs.Sizes.{highest_battery, answer_room};

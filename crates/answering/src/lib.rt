@@ -1,3 +1,4 @@
+#![tactic(auto)]
 // The verdict on a request, and its end: the one place where the answers of the nine requests are signed and written.
 ghost use Rattle.std.specs.Prelude.{◌≡◌, List, ℕ, ◌≤◌, length, take};
 ghost use Rattle.sizes.specs.Sizes.{most_data, answer_room};

@@ -1,3 +1,4 @@
+#![tactic(auto)]
 // Answers and notices, signed and written into the bytes that the caller lends. Nothing here knows a unit.
 ghost use Rattle.std.specs.Prelude.{ℕ, ◌≤◌, ◌≡◌, List, length};
 ghost use Rattle.sizes.specs.Sizes.{most_data, answer_room};

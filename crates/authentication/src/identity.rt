@@ -2,7 +2,7 @@
 ghost use Rattle.std.specs.Prelude.{◌≡◌};
 ghost use Rattle.primitives.specs.Standards.{keyed_by};
 ghost use Rattle.wire.specs.Signing.{derived_key};
-ghost use Rattle.authentication.specs.Judgement.{proves as isProof};
+ghost use Rattle.authentication.specs.Judgement.{proves as is_proof};
 
 use primitives::Keyed;
 use unit::TagUnit;
@@ -20,7 +20,7 @@ pub fn derived_key(u: TagUnit, number: u8) -> Keyed
 
 // Whether bytes prove the identity key in force.
 pub fn proves(u: TagUnit, proof: &[u8]) -> bool
-    ensures { result ≡ isProof u proof.now }
+    ensures { result ≡ is_proof u proof.now }
 {
     let in_force = u.identity;
     let identity = in_force.bytes;

@@ -1,3 +1,4 @@
+#![tactic(auto)]
 // AES (FIPS 197): one block of 16 bytes, each way under a key of 16 bytes, and encrypted under one of 32. Both are uses of one key expansion over Nk
 // and one cipher over Nr. Where two blocks follow one another under a key, its schedule is made once.
 ghost use Rattle.std.specs.Prelude.{◌≡◌};
@@ -8,7 +9,7 @@ use key_schedule::expand;
 use rounds::{cipher, inv_cipher};
 
 // Two blocks.
-#[derive(Drop)]
+#[derive(Clone, Copy)]
 pub struct Blocks {
     pub first: [u8; 16],
     pub second: [u8; 16],

@@ -1,3 +1,4 @@
+#![tactic(auto)]
 // The block cipher as public calls on any bytes, which refuse a wrong size with 7.
 ghost use Rattle.std.specs.Prelude.{◌≡◌, length};
 ghost use Rattle.lent_answer.specs.Ends.{Ends};

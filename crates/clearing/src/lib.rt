@@ -1,8 +1,9 @@
+#![tactic(auto)]
 // The request 0x03: clearing the identity key. It is judged on the unit with its nonce spent, and only with an identity key.
 ghost use Rattle.std.specs.Prelude.{◌≡◌};
 ghost use Rattle.wire.specs.Shape.{request};
 ghost use Rattle.authentication.specs.Promises.{Ready, Judges};
-ghost use Rattle.clearing.specs.Clearing.{cleared as clearedUnit, clear_key};
+ghost use Rattle.clearing.specs.Clearing.{cleared as cleared_unit, clear_key};
 
 use authentication::{Signer, Verdict, identity};
 use unit::{Refusal, TagUnit, change};
@@ -10,7 +11,7 @@ use wire::Head;
 
 // The unit cleared: fresh, but for settings, clock, issued nonces, battery and pairing.
 fn cleared(u: TagUnit) -> TagUnit
-    ensures { result ≡ clearedUnit u }
+    ensures { result ≡ cleared_unit u }
 {
     let settings = u.settings;
     let clock = u.clock;

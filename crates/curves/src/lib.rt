@@ -1,3 +1,4 @@
+#![tactic(auto)]
 // The x coordinate of r times the base point of a curve: SECP160R1 and SECP256R1 of SEC 2, as two uses of functions over the curve.
 pub mod base;
 pub mod secp160r1;
@@ -7,7 +8,7 @@ pub mod secp256r1;
 // the prime p, as many as span says of the order n of the base point (x, y). With p go the constants of its arithmetic:
 // Montgomery's constant, the square that takes a number into its form, and the exponent p - 2 of the inverse. Every number below
 // n has so many bits.
-#[derive(Drop)]
+#[derive(Clone, Copy)]
 pub struct Domain {
     pub width: usize,
     pub p: [u32; 8],

@@ -6,7 +6,7 @@ use super::Domain;
 use super::base::times_base;
 
 // A multiple of the base point: r, and the x coordinate
-#[derive(Drop)]
+#[derive(Clone, Copy)]
 pub struct Multiple160 {
     pub r: [u8; 32],
     pub x: [u8; 20],

@@ -1,3 +1,4 @@
+#![tactic(auto)]
 // The frame reader for a host in C or Rust: any bytes are handed in, and what a frame says stands in the bytes that the host lends. Each call gives
 // one number: the bytes written, or 256 and the refusal's number, and for refusal 8 also, 65,536 times, the place of the first wrong byte.
 ghost use Rattle.std.specs.Prelude.{◌≡◌, ◌≤◌, length};

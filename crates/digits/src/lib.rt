@@ -1,3 +1,4 @@
+#![tactic(auto)]
 // Numbers from bytes and to bytes, the most significant byte first, and the bits of a number.
 ghost use Rattle.std.specs.Prelude.{◌≡◌, ◌+◌, ◌*◌, ◌/◌, ◌%◌, ◌^◌, length, get_or};
 ghost use Rattle.laws.specs.Bytes.{big_endian, number_after};

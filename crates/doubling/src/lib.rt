@@ -1,3 +1,4 @@
+#![tactic(auto)]
 // Points of a curve with a = p - 3 in Jacobian coordinates, over any field, and a point added to itself.
 pub mod small;
 
@@ -10,7 +11,7 @@ use field::operation::{difference, product, sum};
 use small::{eightfold, fourfold, threefold, twofold};
 
 // (x / z^2, y / z^3), or infinity where z is 0. The coordinates are in Montgomery's form.
-#[derive(Drop)]
+#[derive(Clone, Copy)]
 pub struct Jacobian {
     pub x: [u32; 8],
     pub y: [u32; 8],

@@ -1,3 +1,4 @@
+#![tactic(auto)]
 // Events: each is one call of the tag, and prints its answer. Answer room is always ANSWER_ROOM.
 ghost use Rattle.std.specs.Prelude.{◌+◌, ◌≤◌, length};
 ghost use Rattle.events.specs.Event as event;
@@ -9,7 +10,7 @@ use sizes::ANSWER_ROOM;
 use unit::TagUnit;
 
 // An event that the tag answers with bytes.
-#[derive(Drop)]
+#[derive(Clone, Copy)]
 pub enum Ask {
     Read,
     Write,
@@ -18,7 +19,7 @@ pub enum Ask {
 }
 
 // One that it answers without.
-#[derive(Drop)]
+#[derive(Clone, Copy)]
 pub enum Setting {
     Pairing(bool),
     Battery,
@@ -27,7 +28,7 @@ pub enum Setting {
 }
 
 // An event. Its number or its bytes, and those kept from the line before, stand beside it.
-#[derive(Drop)]
+#[derive(Clone, Copy)]
 pub enum Event {
     Asks(Ask),
     Sets(Setting),

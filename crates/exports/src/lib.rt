@@ -1,9 +1,10 @@
+#![tactic(auto)]
 // The end of an exported call: one number, and the record written back where the call changed the unit.
 ghost use Rattle.std.specs.Prelude.{◌≡◌, true, length, ◌+◌, ◌*◌, ◌^◌, ◌≤◌};
 ghost use Rattle.unit.specs.Refusals.{end_of, refused, refusal_number};
 ghost use Rattle.unit.specs.Change.{no_unit};
 ghost use Rattle.stored.specs.Record.{record_size};
-ghost use Rattle.exports.specs.Exported.{refusal_base, ended_base, spends as spendsNonce, writes_back, Finishes, digest_code};
+ghost use Rattle.exports.specs.Exported.{refusal_base, ended_base, spends as spends_nonce, writes_back, Finishes, digest_code};
 
 use lent_answer::Ending;
 use unit::{Refusal, Reply, TagUnit, change, end};
@@ -18,7 +19,7 @@ const ENDED_BASE: u64 = 65536;
 
 // Whether the refusal of a number spends the nonce, and so changes the unit.
 fn spends(n: u64) -> bool
-    ensures { result ≡ spendsNonce n }
+    ensures { result ≡ spends_nonce n }
 {
     (n == 0x80) | ((n == 0x81) | (n == 0x82))
 }

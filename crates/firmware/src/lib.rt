@@ -1,12 +1,14 @@
+#![tactic(auto)]
 // The tag's calls for a host in C or Rust, over the unit as a record of bytes that the host keeps and saves. Any bytes may be handed in:
 // those that are no record are answered as a unit that is not well formed. Each call gives one number: the answer bytes written, or
 // 256 and the refusal's number; for elapsed time also, 65,536 times, the tenth at which a ring ended.
+// The crate `firmware_c` exports each under its name, for the archive that a host links.
 ghost use Rattle.std.specs.Prelude.{not, eqb, length};
 ghost use Rattle.hash_calls.specs.Calls.{hashed, authenticated};
 ghost use Rattle.cipher_calls.specs.Calls.{encrypted, decrypted, encrypted256};
 ghost use Rattle.desk.specs.Exported.{parts_read, parts_read_with_r, ExportsReading};
 ghost use Rattle.settings_calls.specs.Settings.{new_unit};
-ghost use Rattle.tag.specs.Calls.{call, elapsed as elapsedOf};
+ghost use Rattle.tag.specs.Calls.{call, elapsed as elapsed_of};
 ghost use Rattle.tag.specs.Calls as of;
 ghost use Rattle.stored.specs.Record.{decoded};
 ghost use Rattle.exports.specs.Exported.{Exports, ExportsAnswer, ExportsSleep, ExportsDigest, new_in};
@@ -69,7 +71,7 @@ pub extern "C" fn tag_button(bytes: &mut [u8], answer: &mut [u8]) -> u64
 // Time: any number of tenths. Refusals: 6, 2.
 #[unsafe(no_mangle)]
 pub extern "C" fn tag_elapsed(bytes: &mut [u8], tenths: u32, answer: &mut [u8]) -> u64
-    ensures { ExportsAnswer (elapsedOf tenths (length answer.old) (decoded bytes.old)) result bytes.old bytes.new answer.old answer.new }
+    ensures { ExportsAnswer (elapsed_of tenths (length answer.old) (decoded bytes.old)) result bytes.old bytes.new answer.old answer.new }
 {
     let unit = stored::decode(bytes);
     let passed = tag::elapsed(unit, tenths, answer);

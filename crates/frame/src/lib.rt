@@ -1,3 +1,4 @@
+#![tactic(auto)]
 // The advertised frame of a 160-bit identifier: its flags byte, and all of it. Nothing here knows a unit.
 ghost use Rattle.std.specs.Prelude.{◌≡◌, cond, ◌≤◌, length};
 ghost use Rattle.std.specs.Int.Bits.{bit_xor};
@@ -11,7 +12,7 @@ use sizes::{DIGEST_SIZE, FRAME_FLAGS_AT, FRAME_IDENTIFIER_AT, IDENTIFIER_SIZE, L
 pub const MASK_AT: usize = DIGEST_SIZE - 1;
 
 // The hashed flags byte of a frame, where there is one.
-#[derive(Drop)]
+#[derive(Clone, Copy)]
 pub enum Flags {
     LeftOut,
     Shown(u8),

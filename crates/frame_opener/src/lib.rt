@@ -1,3 +1,4 @@
+#![tactic(auto)]
 // The reader of frames with r, which also gives the battery level. Nothing here knows a unit.
 ghost use Rattle.std.specs.Prelude.{◌≡◌, ◌≤◌, length};
 ghost use Rattle.sizes.specs.Sizes.{identifier_size, longest_message};
@@ -12,14 +13,14 @@ use sizes::{FRAME_FLAGS_AT, IDENTIFIER_SIZE};
 pub const WRONG_SIZE: u64 = 1;
 
 // A text as a frame with its r: also the battery level; or refusal 8, or refusal 1 for an r that is not as long as the identifier.
-#[derive(Drop)]
+#[derive(Clone, Copy)]
 pub enum SeenWithR {
     Frame { on: bool, flags: Flags, battery: u8 },
     WrongByte(usize),
     WrongSize,
 }
 
-#[derive(Drop)]
+#[derive(Clone, Copy)]
 pub struct ScannedWithR {
     pub seen: SeenWithR,
     pub id: [u8; IDENTIFIER_SIZE],

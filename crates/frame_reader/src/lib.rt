@@ -1,3 +1,4 @@
+#![tactic(auto)]
 // The reader of the frames that `render` writes: what a text of any bytes says as a frame, or the place of its first wrong byte. Nothing
 // here knows a unit.
 ghost use Rattle.std.specs.Prelude.{◌≡◌, true, false, cond, ◌≤◌, ◌<◌, min, ltb, length};
@@ -17,14 +18,14 @@ const KIND_AT: usize = 7;
 pub const WRONG_BYTE: u64 = 8;
 
 // A text as a frame: its protection bit and its flags byte; or refusal 8, with the place of the first wrong byte.
-#[derive(Drop)]
+#[derive(Clone, Copy)]
 pub enum Seen {
     Frame { on: bool, flags: Flags },
     WrongByte(usize),
 }
 
 // The same with the identifier, which is zero on a refusal.
-#[derive(Drop)]
+#[derive(Clone, Copy)]
 pub struct Scanned {
     pub seen: Seen,
     pub id: [u8; IDENTIFIER_SIZE],

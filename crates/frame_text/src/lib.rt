@@ -1,3 +1,4 @@
+#![tactic(auto)]
 // Scanned frames as text: takes an input byte by byte, and for each line gives the parts of its frame or the refusal in words.
 ghost use Rattle.std.specs.Prelude.{◌≡◌, [], ◌+◌, ◌≤◌, length};
 ghost use Rattle.std.proofs.Math.Option.{some};
@@ -5,7 +6,7 @@ ghost use Rattle.sizes.specs.Sizes.{identifier_size, longest_frame};
 ghost use Rattle.notation.specs.Written.{PutsText};
 ghost use Rattle.frame_reader.specs.Reader.{wrong_byte, read_frame};
 ghost use Rattle.frame_text.specs.Answers.{longest_line, malformed_text, protection_text, flags_text, parts_text, refusal_text, reading_text, line_text};
-ghost use Rattle.frame_text.specs.Taking.{so_far, longer as longerBy, closed as closedAs, ends, Says, Takes};
+ghost use Rattle.frame_text.specs.Taking.{so_far, longer as longer_by, closed as closed_as, ends, Says, Takes};
 
 use frame::Flags;
 use frame_reader::Seen;
@@ -23,21 +24,21 @@ const MOST_BYTES: usize = LONGEST_LINE / 2;
 const TEXT_ROOM: usize = 96;
 
 // A line so far: its first `count` bytes. One that is too long already has a count above that.
-#[derive(Drop)]
+#[derive(Clone, Copy)]
 pub struct Line {
     pub bytes: [u8; LONGEST_LINE],
     pub count: usize,
 }
 
 // A text: the first `count` bytes; the others are zero.
-#[derive(Drop)]
+#[derive(Clone, Copy)]
 pub struct Text {
     pub bytes: [u8; TEXT_ROOM],
     pub count: usize,
 }
 
 // The line after a byte, and what the byte prints.
-#[derive(Drop)]
+#[derive(Clone, Copy)]
 pub struct Taken {
     pub line: Line,
     pub text: Text,
@@ -78,7 +79,7 @@ pub fn finish(line: Line) -> Text
 }
 
 fn longer(line: Line, byte: u8) -> Line
-    ensures { so_far result ≡ longerBy (so_far line) byte }
+    ensures { so_far result ≡ longer_by (so_far line) byte }
 {
     let mut next = line;
     let count = line.count;
@@ -92,7 +93,7 @@ fn longer(line: Line, byte: u8) -> Line
 }
 
 fn closed(line: Line) -> Text
-    ensures { Says (closedAs (so_far line)) result }
+    ensures { Says (closed_as (so_far line)) result }
 {
     let count = line.count;
     let bytes = line.bytes;

@@ -1,3 +1,4 @@
+#![tactic(auto)]
 // The request by its ID: the nine handlers.
 ghost use Rattle.std.specs.Prelude.{◌≡◌, true};
 ghost use Rattle.wire.specs.Shape.{request, size_legal};

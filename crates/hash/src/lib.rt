@@ -1,3 +1,4 @@
+#![tactic(auto)]
 // SHA-256 (FIPS 180-4) over a message handed in as parts.
 
 // The hash value.

@@ -1,3 +1,4 @@
+#![tactic(auto)]
 // The hash and the message authentication code as public calls on any bytes, which refuse a wrong size with 7.
 ghost use Rattle.std.specs.Prelude.{◌++◌, length};
 ghost use Rattle.lent_answer.specs.Ends.{Ends};

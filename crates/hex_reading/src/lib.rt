@@ -1,3 +1,4 @@
+#![tactic(auto)]
 // What a value in hexadecimal on a line means: bytes, or one byte; or that it is wrong.
 ghost use Rattle.std.specs.Prelude.{◌≡◌, ◌*◌, ◌≤◌, length};
 ghost use Rattle.reading.specs.Values.{numeral_of};
@@ -7,7 +8,7 @@ ghost use Rattle.hex_reading.specs.HexValues.{nibble_of, Unhexes};
 use reading::{NINE, Numeral, ZERO};
 
 // How many bytes were read, or that the text is wrong.
-#[derive(Drop)]
+#[derive(Clone, Copy)]
 pub enum Octets {
     Count(usize),
     Wrong,

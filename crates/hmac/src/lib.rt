@@ -1,3 +1,4 @@
+#![tactic(auto)]
 // HMAC (RFC 2104) with SHA-256 over a message handed in as parts.
 
 // The key.
@@ -11,7 +12,7 @@ use hash::{digest_of_value, state_after};
 use key::{key_block, masked, value_of};
 
 // A key of HMAC, made ready: the hash values after its block under ipad and under opad. Plain data, for as many messages as there are.
-#[derive(Drop)]
+#[derive(Clone, Copy)]
 pub struct Keyed {
     pub inner: Working,
     pub outer: Working,

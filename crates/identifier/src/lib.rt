@@ -1,8 +1,9 @@
+#![tactic(auto)]
 // The ephemeral identifier of an identity key and a window, with its r: what a tag advertises while that key is in force, in that window. Nothing here
 // knows a unit.
 ghost use Rattle.std.specs.Prelude.{◌≡◌};
 ghost use Rattle.curve_laws.specs.Curves.{SECP160R1};
-ghost use Rattle.identifier.specs.Identifier.{half as half_of, pseudorandom as pseudorandomOf, WorksOut};
+ghost use Rattle.identifier.specs.Identifier.{half as half_of, pseudorandom as pseudorandom_of, WorksOut};
 
 use curves::secp160r1::secp160r1;
 use sizes::{BLOCK_SIZE, IDENTIFIER_SIZE, IDENTITY_KEY_SIZE, ROTATION_EXPONENT};
@@ -13,7 +14,7 @@ const NUMBER_SIZE: usize = 2 * BLOCK_SIZE;
 const ABOVE_R: usize = NUMBER_SIZE - IDENTIFIER_SIZE;
 
 // An identifier of SECP160R1 and its r, cut or padded to as many bytes. Where r is 0 there is none, and both are zeros.
-#[derive(Drop)]
+#[derive(Clone, Copy)]
 pub struct Identifier160 {
     pub some: bool,
     pub r: [u8; IDENTIFIER_SIZE],
@@ -34,7 +35,7 @@ fn half(padding: u8, window: u32) -> [u8; BLOCK_SIZE]
 
 // r': the two halves under the identity key.
 fn pseudorandom(key: [u8; IDENTITY_KEY_SIZE], window: u32) -> [u8; NUMBER_SIZE]
-    ensures { result ≡ pseudorandomOf key window }
+    ensures { result ≡ pseudorandom_of key window }
 {
     let cipher = primitives::encrypt256_pair(key, half(0xFF, window), half(0x00, window));
     let head = cipher.first;
@@ -59,7 +60,7 @@ pub fn from_number(number: [u8; NUMBER_SIZE]) -> Identifier160
 
 // The identifier of an identity key and a window.
 pub fn of_key(key: [u8; IDENTITY_KEY_SIZE], window: u32) -> Identifier160
-    ensures { WorksOut SECP160R1 (pseudorandomOf key window) result.some result.r result.id }
+    ensures { WorksOut SECP160R1 (pseudorandom_of key window) result.some result.r result.id }
 {
     from_number(pseudorandom(key, window))
 }

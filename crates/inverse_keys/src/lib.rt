@@ -1,3 +1,4 @@
+#![tactic(auto)]
 // The round keys of the equivalent inverse cipher (FIPS 197, §5.3.5), in words.
 ghost use Rattle.std.specs.Prelude.{◌≡◌, ◌+◌, ◌*◌, ◌≤◌, length};
 ghost use Rattle.inverse_keys.specs.Keys.{InverseKeys};

@@ -1,3 +1,4 @@
+#![tactic(auto)]
 // The identity key as it travels: two blocks under the owner key.
 ghost use Rattle.std.specs.Prelude.{◌≡◌, ◌+◌, ◌≤◌, length, take, drop};
 ghost use Rattle.sizes.specs.Sizes.{block_size, identity_key_size};

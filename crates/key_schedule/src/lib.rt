@@ -1,3 +1,4 @@
+#![tactic(auto)]
 // The key expansion of AES (FIPS 197, §5.2) over Nk.
 mod schedule;
 

@@ -1,1 +1,2 @@
+#![tactic(auto)]
 // No code: definitions that several crates cite are in specs/, their laws in proofs/.

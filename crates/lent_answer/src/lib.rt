@@ -1,9 +1,10 @@
+#![tactic(auto)]
 // How the public calls of hash and cipher end: the answer is written where it has the size, or refusal 7.
 ghost use Rattle.std.specs.Prelude.{eqb, length};
 ghost use Rattle.lent_answer.specs.Ends.{Ends, or_refusal};
 
 // The end of a call: the answer is written, or a length is not as the call asks (refusal 7) and nothing is written.
-#[derive(Drop)]
+#[derive(Clone, Copy)]
 pub enum Ending {
     Done,
     WrongSize,

@@ -1,6 +1,7 @@
+#![tactic(auto)]
 // What a line says, by what is expected there.
 ghost use Rattle.std.specs.Prelude.{◌≡◌, ◌≤◌, length, []};
-ghost use Rattle.reading.specs.Reading.{unsigned as unsignedOf};
+ghost use Rattle.reading.specs.Reading.{unsigned as unsigned_of};
 ghost use Rattle.hex_reading.specs.Hex.{bytes as bytes_of};
 ghost use Rattle.lines.specs.Lines as lines;
 ghost use Rattle.lines.specs.Promises.{expecting, awaiting, Means, Says, SaysNumber, line_of, value_line};
@@ -10,7 +11,7 @@ use hex_reading::Octets;
 use reading::{Numeral, SignedNumeral, Switch};
 
 // A line of the settings or of an event.
-#[derive(Drop)]
+#[derive(Clone, Copy)]
 pub enum Awaited {
     Power,
     Components,
@@ -25,14 +26,14 @@ pub enum Awaited {
 }
 
 // Which line is expected: an event's name, or one inside the settings or an event.
-#[derive(Drop)]
+#[derive(Clone, Copy)]
 pub enum Next {
     Event,
     Inside(Awaited),
 }
 
 // What a line means. Its number or its bytes stand beside it; those of one that keeps them are for the line that follows.
-#[derive(Drop)]
+#[derive(Clone, Copy)]
 pub enum Line {
     Power(i32),
     Components,
@@ -44,7 +45,7 @@ pub enum Line {
 }
 
 // A line that was read, its number, and how many bytes of it stand at the front of those lent.
-#[derive(Drop)]
+#[derive(Clone, Copy)]
 pub struct Told {
     pub line: Line,
     pub number: u32,
@@ -140,7 +141,7 @@ fn reach(line: &[u8]) -> Told
 
 // The number behind a key, and what it is for.
 fn number(line: &[u8], key: &[u8], means: Line) -> Told
-    ensures { SaysNumber (λ p c b. value_line key.now unsignedOf (λ n. line_of means p c b n []) line.now) result }
+    ensures { SaysNumber (λ p c b. value_line key.now unsigned_of (λ n. line_of means p c b n []) line.now) result }
 {
     if !reading::begins(line, key) {
         return plain(Line::Breaks);

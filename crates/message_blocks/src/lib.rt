@@ -1,3 +1,4 @@
+#![tactic(auto)]
 // The blocks of the padded message of FIPS 180-4, §5.1 and §5.2, of a message that is handed in as four parts. Only a block that lies in no single
 // part is laid out in 64 bytes of its own; that of a short message at once.
 ghost use Rattle.std.specs.Prelude.{◌≡◌, ◌++◌, ◌+◌, ◌*◌, ◌%◌, ◌^◌, ◌≤◌, ◌<◌, length};

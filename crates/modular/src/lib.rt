@@ -1,3 +1,4 @@
+#![tactic(auto)]
 // Numbers of the same width modulo m, each of them below m.
 ghost use Rattle.std.specs.Prelude.{◌≡◌, ◌+◌, ◌-◌, ◌*◌, ◌%◌, ◌<◌, length};
 ghost use Rattle.limbs.specs.Limbs.{over, value, Below};

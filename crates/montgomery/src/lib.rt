@@ -1,3 +1,4 @@
+#![tactic(auto)]
 // Montgomery's product: instead of dividing by m, each step adds the multiple of m that makes the lowest limb 0 and
 // drops that limb (P. L. Montgomery, Modular multiplication without trial division, 1985).
 ghost use Rattle.std.specs.Prelude.{◌≡◌, ◌+◌, ◌*◌, ◌%◌, ◌^◌, length};

@@ -1,3 +1,4 @@
+#![tactic(auto)]
 // The nonces that a unit holds: those issued last, at most sixteen, of which only the newest can be live. Inner calls: those that ask something
 // of their caller say so.
 ghost use Rattle.std.specs.Prelude.{◌≡◌, ◌++◌, ◌&&◌, ◌*◌, ◌≤◌, length, drop};
@@ -9,7 +10,7 @@ ghost use Rattle.nonces.specs.Nonces.{no_nonces, nonces_legal, nonce_fits, count
 use sizes::{EARLIER_ROOM, MOST_NONCES, NONCE_SIZE, NONCES_ROOM};
 
 // How many there are; whether the newest is live, that is not yet spent by a write; the newest; and those before it, newest first, a table.
-#[derive(Drop)]
+#[derive(Clone, Copy)]
 pub struct Nonces {
     pub count: u8,
     pub live: bool,

@@ -1,6 +1,6 @@
 // Writing text into lent bytes, from a place on. Each function gives the next place.
 ghost use Rattle.std.specs.Prelude.{◌≡◌, [], ◌∷◌, ◌++◌, ◌+◌, ◌*◌, ◌≤◌, ◌<◌, length};
-ghost use Rattle.notation.specs.Text.{decimal as decimalOf, hex as hexOf, hex_digit, newline};
+ghost use Rattle.notation.specs.Text.{decimal as decimal_of, hex as hex_of, hex_digit, newline};
 ghost use Rattle.notation.specs.Written.{PutsText};
 
 // Bytes as they are.
@@ -23,7 +23,7 @@ fn digit(d: u8) -> u8
 // Bytes in hexadecimal, two digits each.
 pub fn hex(out: &mut [u8], at: usize, bytes: &[u8]) -> usize
     requires { at + 2 * length bytes.now ≤ length out.old }
-    ensures { PutsText (hexOf bytes.now) at out.old result out.new }
+    ensures { PutsText (hex_of bytes.now) at out.old result out.new }
 {
     let mut next = at;
     let mut i = 0;
@@ -40,7 +40,7 @@ pub fn hex(out: &mut [u8], at: usize, bytes: &[u8]) -> usize
 // A key, bytes in hexadecimal and a newline.
 pub fn hex_line(out: &mut [u8], at: usize, key: &[u8], bytes: &[u8]) -> usize
     requires { at + (length key.now + (2 * length bytes.now + 1)) ≤ length out.old }
-    ensures { PutsText (key.now ++ (hexOf bytes.now ++ (newline ∷ []))) at out.old result out.new }
+    ensures { PutsText (key.now ++ (hex_of bytes.now ++ (newline ∷ []))) at out.old result out.new }
 {
     let next = put(out, at, key);
     let end = hex(out, next, bytes);
@@ -50,7 +50,7 @@ pub fn hex_line(out: &mut [u8], at: usize, key: &[u8], bytes: &[u8]) -> usize
 // A key, a number in decimal and a newline.
 pub fn decimal_line(out: &mut [u8], at: usize, key: &[u8], n: u32) -> usize
     requires { at + (length key.now + 11) ≤ length out.old }
-    ensures { PutsText (key.now ++ (decimalOf n ++ (newline ∷ []))) at out.old result out.new }
+    ensures { PutsText (key.now ++ (decimal_of n ++ (newline ∷ []))) at out.old result out.new }
 {
     let next = put(out, at, key);
     let end = decimal(out, next, n);
@@ -60,7 +60,7 @@ pub fn decimal_line(out: &mut [u8], at: usize, key: &[u8], n: u32) -> usize
 // A number in decimal: its digits from the last to the first, and then as text.
 fn decimal(out: &mut [u8], at: usize, n: u32) -> usize
     requires { at + 10 ≤ length out.old }
-    ensures { PutsText (decimalOf n) at out.old result out.new }
+    ensures { PutsText (decimal_of n) at out.old result out.new }
 {
     let mut digits = [0u8; 10];
     let mut first = 9;

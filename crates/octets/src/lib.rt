@@ -1,3 +1,4 @@
+#![tactic(auto)]
 // What every crate does with bytes: put them into others, compare them, take some of them as an array, and read and write big-endian
 // numbers. Inner calls: those that ask something of their caller say so.
 ghost use Rattle.std.specs.Prelude.{◌≡◌, ◌++◌, ◌+◌, ◌≤◌, length};

@@ -1,9 +1,10 @@
+#![tactic(auto)]
 // The request 0x00, which any account key may make: the parameters of the beacon. It is judged on the unit with its nonce spent.
 ghost use Rattle.std.specs.Prelude.{◌≡◌, true};
 ghost use Rattle.unit.specs.WellFormed.{power_legal};
 ghost use Rattle.wire.specs.Shape.{request};
 ghost use Rattle.authentication.specs.Promises.{Ready, Judges};
-ghost use Rattle.parameter_read.specs.Parameters.{wire_byte, parameters as parametersOf, read_parameters};
+ghost use Rattle.parameter_read.specs.Parameters.{wire_byte, parameters as parameters_of, read_parameters};
 
 use authentication::{Signer, Verdict};
 use sizes::BLOCK_SIZE;
@@ -28,7 +29,7 @@ pub fn wire_byte(power: i32) -> u8
 // What 0x00 gives before encryption.
 fn plain(s: Settings, seconds: u32) -> [u8; BLOCK_SIZE]
     requires { power_legal s.power ≡ true }
-    ensures { result ≡ parametersOf s seconds }
+    ensures { result ≡ parameters_of s seconds }
 {
     let power = s.power;
     let first = [wire_byte(power)];

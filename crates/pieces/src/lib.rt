@@ -1,3 +1,4 @@
+#![tactic(auto)]
 // A piece of a session file, byte by byte: a line that grows, and the byte that ends it.
 ghost use Rattle.std.specs.Prelude.{◌≡◌, ◌≤◌};
 ghost use Rattle.notation.specs.Text.{newline};

@@ -1,3 +1,4 @@
+#![tactic(auto)]
 // The hash, the message authentication code and the block cipher that the tag uses, on sizes that are known to be right.
 ghost use Rattle.std.specs.Prelude.{◌≡◌, List, ◌++◌, ℕ, ◌≤◌, length};
 ghost use Rattle.sizes.specs.Sizes.{longest_message};
@@ -52,7 +53,7 @@ pub fn decrypt(key: [u8; 16], block: [u8; 16]) -> [u8; 16]
 }
 
 // Two blocks.
-#[derive(Drop)]
+#[derive(Clone, Copy)]
 pub struct Blocks {
     pub first: [u8; 16],
     pub second: [u8; 16],

@@ -1,3 +1,4 @@
+#![tactic(auto)]
 // What an event prints, and a refusal and a malformed line.
 ghost use Rattle.std.specs.Prelude.{◌≡◌, ◌+◌, ◌≤◌, length, take, ◌++◌};
 ghost use Rattle.sizes.specs.Sizes.{answer_room};
@@ -11,7 +12,7 @@ use time::Passed;
 use unit::{Refusal, Reply, Step, TagUnit, end};
 
 // The unit after an event, and the next place.
-#[derive(Drop)]
+#[derive(Clone, Copy)]
 pub struct Performed {
     pub unit: TagUnit,
     pub written: usize,

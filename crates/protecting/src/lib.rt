@@ -1,8 +1,9 @@
+#![tactic(auto)]
 // The requests 0x07 and 0x08: unwanted tracking protection on and off.
 ghost use Rattle.std.specs.Prelude.{◌≡◌};
 ghost use Rattle.wire.specs.Shape.{request};
 ghost use Rattle.authentication.specs.Promises.{Ready, Judges};
-ghost use Rattle.protecting.specs.Protecting.{flag_of, protect as protectBy, unprotect as unprotectBy};
+ghost use Rattle.protecting.specs.Protecting.{flag_of, protect as protect_by, unprotect as unprotect_by};
 
 use authentication::{Verdict, identity};
 use unit::{Protection, Refusal, TagUnit, change};
@@ -21,7 +22,7 @@ fn flag_of(additional: &[u8]) -> u8
 // 0x07: protection on, with the skip flag on or off.
 pub fn protect(u: TagUnit, h: Head, additional: &[u8]) -> Verdict
     requires { Ready u h.size additional.now }
-    ensures { Judges u h.id (protectBy u (request h additional.now)) result }
+    ensures { Judges u h.id (protect_by u (request h additional.now)) result }
 {
     let key = identity::derived_key(u, signing::PROTECTION);
     let n = u.nonces;
@@ -40,7 +41,7 @@ pub fn protect(u: TagUnit, h: Head, additional: &[u8]) -> Verdict
 // 0x08: protection off.
 pub fn unprotect(u: TagUnit, h: Head, additional: &[u8]) -> Verdict
     requires { Ready u h.size additional.now }
-    ensures { Judges u h.id (unprotectBy u (request h additional.now)) result }
+    ensures { Judges u h.id (unprotect_by u (request h additional.now)) result }
 {
     let key = identity::derived_key(u, signing::PROTECTION);
     let n = u.nonces;

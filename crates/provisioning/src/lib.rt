@@ -1,9 +1,10 @@
+#![tactic(auto)]
 // The request 0x02: setting the identity key. It is judged on the unit with its nonce spent.
 ghost use Rattle.std.specs.Prelude.{◌≡◌, ◌≤◌, length};
 ghost use Rattle.sizes.specs.Sizes.{identity_key_size};
 ghost use Rattle.wire.specs.Shape.{request};
 ghost use Rattle.authentication.specs.Promises.{Ready, Judges};
-ghost use Rattle.provisioning.specs.Provisioning.{may_replace, awaiting as awaitingUnit, set_key};
+ghost use Rattle.provisioning.specs.Provisioning.{may_replace, awaiting as awaiting_unit, set_key};
 
 use authentication::{Signer, Verdict, identity};
 use sizes::IDENTITY_KEY_SIZE;
@@ -27,7 +28,7 @@ fn may_replace(u: TagUnit, h: Head, additional: &[u8]) -> bool
 
 // The unit with a new identity key that waits.
 fn awaiting(u: TagUnit, key: [u8; IDENTITY_KEY_SIZE]) -> TagUnit
-    ensures { result ≡ awaitingUnit key u }
+    ensures { result ≡ awaiting_unit key u }
 {
     let k = Identity {
         held: true,

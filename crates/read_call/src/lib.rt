@@ -1,3 +1,4 @@
+#![tactic(auto)]
 // What a read does on a unit that passed the guards: it issues the lent nonce.
 ghost use Rattle.std.specs.Prelude.{◌≡◌, true, ◌≤◌, length};
 ghost use Rattle.sizes.specs.Sizes.{answer_room};

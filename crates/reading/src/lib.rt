@@ -1,22 +1,23 @@
+#![tactic(auto)]
 // What a value on a line means: numbers, a flag; or that it is wrong.
 ghost use Rattle.std.specs.Prelude.{◌≡◌, length, take};
 ghost use Rattle.laws.specs.Bytes.{same_bytes};
-ghost use Rattle.reading.specs.Reading.{unsigned as unsignedOf, signed as signed_of, flag as flag_of, negative, positive};
+ghost use Rattle.reading.specs.Reading.{unsigned as unsigned_of, signed as signed_of, flag as flag_of, negative, positive};
 ghost use Rattle.reading.specs.Values.{numeral_of, signed_numeral_of, switch_of, in_digits};
 
-#[derive(Drop)]
+#[derive(Clone, Copy)]
 pub enum Numeral {
     Value(u32),
     Wrong,
 }
 
-#[derive(Drop)]
+#[derive(Clone, Copy)]
 pub enum SignedNumeral {
     Value(i32),
     Wrong,
 }
 
-#[derive(Drop)]
+#[derive(Clone, Copy)]
 pub enum Switch {
     Value(bool),
     Wrong,
@@ -43,7 +44,7 @@ pub fn begins(text: &[u8], key: &[u8]) -> bool
 
 // A decimal number without leading zeros, of 32 bits.
 pub fn unsigned(text: &[u8]) -> Numeral
-    ensures { numeral_of result ≡ unsignedOf text.now }
+    ensures { numeral_of result ≡ unsigned_of text.now }
 {
     if text.len() == 0 {
         return Numeral::Wrong;

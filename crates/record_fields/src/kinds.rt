@@ -1,7 +1,7 @@
 // The kinds of fields that are numbers, flags or calibrated power. All numbers are big-endian.
 ghost use Rattle.std.specs.Prelude.{◌≡◌, ◌+◌, ◌≤◌, ◌<◌, ◌^◌, length};
 ghost use Rattle.octets.specs.Put.{Puts};
-ghost use Rattle.record_fields.specs.Kinds.{byte_size, byte, flag as flagPart, flag_byte, number_of, power_size, power as powerPart, power_word, word_power, tenths_size, seconds_size, count_size};
+ghost use Rattle.record_fields.specs.Kinds.{byte_size, byte, flag as flag_part, flag_byte, number_of, power_size, power as power_part, power_word, word_power, tenths_size, seconds_size, count_size};
 
 pub const BYTE_SIZE: usize = 1;
 
@@ -29,14 +29,14 @@ fn flag_byte(f: bool) -> u8
 
 pub fn put_flag(to: &mut [u8], at: usize, f: bool)
     requires { at + byte_size ≤ length to.old }
-    ensures { Puts at byte_size (flagPart.bytes f) to.old to.new }
+    ensures { Puts at byte_size (flag_part.bytes f) to.old to.new }
 {
     put_byte(to, at, flag_byte(f));
 }
 
 pub fn flag(from: &[u8], at: usize) -> bool
     requires { at + byte_size ≤ length from.now }
-    ensures { result ≡ flagPart.value from.now at }
+    ensures { result ≡ flag_part.value from.now at }
 {
     from[at] == 1
 }
@@ -111,14 +111,14 @@ fn word_power(word: u64) -> i32
 
 pub fn put_power(to: &mut [u8], at: usize, power: i32)
     requires { at + power_size ≤ length to.old }
-    ensures { Puts at power_size (powerPart.bytes power) to.old to.new }
+    ensures { Puts at power_size (power_part.bytes power) to.old to.new }
 {
     octets::put_number(to, at, POWER_SIZE, power_word(power));
 }
 
 pub fn power(from: &[u8], at: usize) -> i32
     requires { at + power_size ≤ length from.now }
-    ensures { result ≡ powerPart.value from.now at }
+    ensures { result ≡ power_part.value from.now at }
 {
     let word = octets::number(&from[at..at + POWER_SIZE]);
     word_power(word)

@@ -1,3 +1,4 @@
+#![tactic(auto)]
 // The request 0x04: recovering the identity key. It is judged on the unit with its nonce spent, and only with an identity key.
 ghost use Rattle.std.specs.Prelude.{◌≡◌, ◌||◌, ltb};
 ghost use Rattle.wire.specs.Shape.{request};

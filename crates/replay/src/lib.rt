@@ -1,3 +1,4 @@
+#![tactic(auto)]
 // The replay of a session file, from bytes to bytes: a piece of it is fed.
 ghost use Rattle.session.specs.Session.{Feeds};
 ghost use Rattle.session.specs.Closing.{BoundedBy};

@@ -1,3 +1,4 @@
+#![tactic(auto)]
 // A write as a whole, on a well-formed unit with room for the answer: reach, shape, live nonce, and the request by its ID.
 ghost use Rattle.std.specs.Prelude.{◌≡◌, true, ◌||◌, ◌≤◌, ltb, length};
 ghost use Rattle.sizes.specs.Sizes.{answer_room};

@@ -1,3 +1,4 @@
+#![tactic(auto)]
 // What a legal ring comes to on what sounds, with the parts that can be reached. No unit and no key.
 ghost use Rattle.std.specs.Prelude.{◌≡◌};
 ghost use Rattle.ring_decisions.specs.Decisions.{stop_decision, ring_decision};
@@ -5,7 +6,7 @@ ghost use Rattle.ring_decisions.specs.Decisions.{stop_decision, ring_decision};
 use unit::Sound;
 
 // What a legal 0x05 comes to: these parts ring, nothing sounds any more, or what sounds is left as it is.
-#[derive(Drop)]
+#[derive(Clone, Copy)]
 pub enum Decision {
     Started(u8),
     Stopped,

@@ -1,8 +1,9 @@
+#![tactic(auto)]
 // The values of a ring: what is asked for, whether it is legal, and the bytes that tell what sounds. No unit and no key.
 ghost use Rattle.std.specs.Prelude.{◌≡◌, ◌∷◌, ◌≤◌, length};
 ghost use Rattle.sizes.specs.Sizes.{most_components};
 ghost use Rattle.wire.specs.Signing.{failed};
-ghost use Rattle.ring_values.specs.RingValues.{skips as isSkipped, all_of_none, asked_timeout, ring_mask, ring_legal, held_volume, sound_state, ring_data};
+ghost use Rattle.ring_values.specs.RingValues.{skips as is_skipped, all_of_none, asked_timeout, ring_mask, ring_legal, held_volume, sound_state, ring_data};
 
 use sizes::{HIGHEST_VOLUME, LONGEST_RING};
 use unit::{Protection, Settings, Sound, mask};
@@ -14,7 +15,7 @@ const STATE_SIZE: usize = 3;
 
 // Whether a ring needs no tag: under protection with the skip flag.
 pub fn skips(protection: Protection) -> bool
-    ensures { result ≡ isSkipped protection }
+    ensures { result ≡ is_skipped protection }
 {
     match protection {
         Protection::Off => false,

@@ -1,13 +1,14 @@
+#![tactic(auto)]
 // The requests 0x05 and 0x06: ring, stop, and read what rings.
 ghost use Rattle.std.specs.Prelude.{◌≡◌, ◌||◌, ◌≤◌, length};
 ghost use Rattle.sizes.specs.Sizes.{most_length};
 ghost use Rattle.primitives.specs.Standards.{keyed_by};
 ghost use Rattle.wire.specs.Shape.{request};
 ghost use Rattle.wire.specs.Signing.{ring_key, ring_id};
-ghost use Rattle.authentication.specs.Judgement.{tagged as isTagged, last_nonce};
+ghost use Rattle.authentication.specs.Judgement.{tagged as is_tagged, last_nonce};
 ghost use Rattle.authentication.specs.Promises.{Ready, Judges};
-ghost use Rattle.ring_values.specs.RingValues.{skips as isSkipped, ring_data};
-ghost use Rattle.ringing.specs.Ringing.{rung as rungBy, ring as ringBy, read_sound};
+ghost use Rattle.ring_values.specs.RingValues.{skips as is_skipped, ring_data};
+ghost use Rattle.ringing.specs.Ringing.{rung as rung_by, ring as ring_by, read_sound};
 
 use authentication::{Verdict, identity};
 use primitives::Keyed;
@@ -21,7 +22,7 @@ use wire::{Head, signing};
 // Rings, stops, or fails and changes nothing; the answer is a notice, signed with the write's own nonce.
 fn rung(u: TagUnit, key: Keyed, decision: Decision, volume: u8, left: u16) -> Verdict
     requires { key ≡ keyed_by (ring_key u.identity.bytes) }
-    ensures { Judges u ring_id (rungBy decision u volume left) result }
+    ensures { Judges u ring_id (rung_by decision u volume left) result }
 {
     match decision {
         Decision::Started(mask) => {
@@ -46,7 +47,7 @@ fn rung(u: TagUnit, key: Keyed, decision: Decision, volume: u8, left: u16) -> Ve
 // Whether a ring is let through: by the skip flag, or by its tag.
 fn let_through(u: TagUnit, key: Keyed, h: Head, additional: &[u8]) -> bool
     requires { (key ≡ keyed_by (ring_key u.identity.bytes)) × (length additional.now ≤ most_length) }
-    ensures { result ≡ (isSkipped u.protection || isTagged (ring_key u.identity.bytes) (last_nonce u) (request h additional.now)) }
+    ensures { result ≡ (is_skipped u.protection || is_tagged (ring_key u.identity.bytes) (last_nonce u) (request h additional.now)) }
 {
     let protection = u.protection;
     if skips(protection) {
@@ -60,7 +61,7 @@ fn let_through(u: TagUnit, key: Keyed, h: Head, additional: &[u8]) -> bool
 // 0x05: rings, or stops the ring, where parts can be reached.
 pub fn ring(u: TagUnit, h: Head, additional: &[u8], reach: u8) -> Verdict
     requires { Ready u h.size additional.now × ((length additional.now ≡ ring_data) × (h.id ≡ ring_id)) }
-    ensures { Judges u h.id (ringBy u (request h additional.now) reach) result }
+    ensures { Judges u h.id (ring_by u (request h additional.now) reach) result }
 {
     let key = identity::derived_key(u, signing::RING);
     if !let_through(u, key, h, additional) {

@@ -1,3 +1,4 @@
+#![tactic(auto)]
 // A session file's run: the record of it, and what a closed line does to it. Its two ends stand in `session_ends`; how the bytes of a file are
 // fed to it, in `pieces` and `replay`.
 use lines::Next;
@@ -17,7 +18,7 @@ pub const LAST_NUMBER: u32 = MOST_LINES + 1;
 pub const LINE_ROOM: usize = 256;
 
 // A run between two lines: what is expected, the number of the line that is to come, what was read before it, and the unit.
-#[derive(Drop)]
+#[derive(Clone, Copy)]
 pub struct Run {
     pub ended: bool,
     pub next: Next,
@@ -31,14 +32,14 @@ pub struct Run {
 }
 
 // A run, and how many bytes it has written.
-#[derive(Drop)]
+#[derive(Clone, Copy)]
 pub struct Progress {
     pub run: Run,
     pub written: usize,
 }
 
 // A run in the middle of a line: the line so far is the first `count` bytes.
-#[derive(Drop)]
+#[derive(Clone, Copy)]
 pub struct Session {
     pub run: Run,
     pub line: [u8; 256],
@@ -46,14 +47,14 @@ pub struct Session {
 }
 
 // A session after a byte that ends a line, and the next place of what it writes.
-#[derive(Drop)]
+#[derive(Clone, Copy)]
 pub struct After {
     pub session: Session,
     pub written: usize,
 }
 
 // How far a piece was taken.
-#[derive(Drop)]
+#[derive(Clone, Copy)]
 pub struct Fed {
     pub session: Session,
     // Bytes of the piece that were taken, and bytes that were written.
@@ -62,7 +63,7 @@ pub struct Fed {
 }
 
 // The end of a run: the bytes written, or that the lent bytes are too few.
-#[derive(Drop)]
+#[derive(Clone, Copy)]
 pub enum Finished {
     Wrote(usize),
     NoRoom,

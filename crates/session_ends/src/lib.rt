@@ -1,3 +1,4 @@
+#![tactic(auto)]
 // The two ends of a session file's replay: a session before its first byte, and the end of the file.
 ghost use Rattle.std.specs.Prelude.{◌≡◌, ◌≤◌, cond, [], eqb, length};
 ghost use Rattle.session.specs.Feeding.{first};

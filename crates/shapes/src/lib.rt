@@ -1,3 +1,4 @@
+#![tactic(auto)]
 // Which writes have a legal shape.
 ghost use Rattle.std.specs.Prelude.{◌≡◌};
 ghost use Rattle.shapes.specs.Lengths.{size_legal};

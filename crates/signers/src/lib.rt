@@ -1,3 +1,4 @@
+#![tactic(auto)]
 // The account key that signed a request.
 ghost use Rattle.std.specs.Prelude.{◌≡◌, true, [], ◌≤◌, ◌<◌, ◌*◌, length, get_or};
 ghost use Rattle.sizes.specs.Sizes.{account_key_size, most_length};
@@ -5,7 +6,7 @@ ghost use Rattle.primitives.specs.Standards.{keyed_by};
 ghost use Rattle.tables.specs.Rows.{rows, first_that};
 ghost use Rattle.unit.specs.WellFormed.{well_formed, held_keys, owner_key, owner_legal, accounts_legal};
 ghost use Rattle.wire.specs.Shape.{request};
-ghost use Rattle.authentication.specs.Judgement.{tagged as isTagged, used_key, signed_by_owner};
+ghost use Rattle.authentication.specs.Judgement.{tagged as is_tagged, used_key, signed_by_owner};
 ghost use Rattle.authentication.specs.Promises.{Finds, Identifies};
 
 use authentication::{Found, Signer, tagged};
@@ -15,7 +16,7 @@ use unit::{Accounts, Owner, TagUnit};
 use wire::Head;
 
 // An account key that was tried on a request: the key made ready, and whether it signed the request.
-#[derive(Drop)]
+#[derive(Clone, Copy)]
 struct Trial {
     key: Keyed,
     signs: bool,
@@ -24,7 +25,7 @@ struct Trial {
 // Tries a key on a request.
 fn tried(bytes: &[u8], nonce: [u8; NONCE_SIZE], h: Head, additional: &[u8]) -> Trial
     requires { (length bytes.now ≤ account_key_size) × (length additional.now ≤ most_length) }
-    ensures { (result.key ≡ keyed_by bytes.now) × (result.signs ≡ isTagged bytes.now nonce (request h additional.now)) }
+    ensures { (result.key ≡ keyed_by bytes.now) × (result.signs ≡ is_tagged bytes.now nonce (request h additional.now)) }
 {
     let key = primitives::ready_key(bytes);
     let signs = tagged(key, nonce, h, additional);
@@ -40,7 +41,7 @@ fn first_of(
     additional: &[u8],
 ) -> Signer
     requires { (count * account_key_size ≤ length keys.now) × (length additional.now ≤ most_length) }
-    ensures { Identifies (first_that (λ k. isTagged k nonce (request h additional.now)) (rows account_key_size count keys.now)) (rows account_key_size count keys.now) result }
+    ensures { Identifies (first_that (λ k. is_tagged k nonce (request h additional.now)) (rows account_key_size count keys.now)) (rows account_key_size count keys.now) result }
 {
     let mut i = 0;
     let found = loop {

@@ -1,3 +1,4 @@
+#![tactic(auto)]
 // The sizes and limits of the paper, each in one line, as the code names them; specs/Sizes has the sentences.
 
 // Bytes of each thing that has a fixed size.

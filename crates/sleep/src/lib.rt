@@ -1,3 +1,4 @@
+#![tactic(auto)]
 // How long a unit may sleep: the tenths until the next thing that time alone would do.
 ghost use Rattle.std.specs.Prelude.{◌≡◌, true, ◌≤◌};
 ghost use Rattle.unit.specs.WellFormed.{well_formed};
@@ -8,7 +9,7 @@ use sizes::WINDOW_LENGTH;
 use unit::{Clock, Refusal, Sound, TagUnit};
 
 // The tenths until then, or why they are not told.
-#[derive(Drop)]
+#[derive(Clone, Copy)]
 pub enum Sleep {
     Until(u32),
     Refused(Refusal),

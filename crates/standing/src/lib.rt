@@ -1,3 +1,4 @@
+#![tactic(auto)]
 // The identifier that stands for the current window of a unit.
 ghost use Rattle.std.specs.Prelude.{◌≡◌};
 ghost use Rattle.sizes.specs.Sizes.{window};

@@ -1,3 +1,4 @@
+#![tactic(auto)]
 // The request 0x01, which any account key may make: the provisioning state. It is judged on the unit with its nonce spent.
 ghost use Rattle.std.specs.Prelude.{◌≡◌, true, [], ◌∷◌, ◌<◌, length, get_or};
 ghost use Rattle.unit.specs.WellFormed.{held_keys, owner_key, accounts_legal, owner_legal};

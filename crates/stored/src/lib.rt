@@ -1,3 +1,4 @@
+#![tactic(auto)]
 // The unit as a record of bytes, which a host keeps in its own memory and saves to flash: a version byte, then the unit's fields part by
 // part. The constants say where each part stands, each right behind the one before it.
 ghost use Rattle.std.specs.Prelude.{◌≡◌, ◌≤◌, length};

@@ -1,3 +1,4 @@
+#![tactic(auto)]
 // The field GF(2^8) of FIPS 197 in bytes, and its two substitution boxes as tables.
 mod byte_field;
 mod inv_sbox;

@@ -1,7 +1,8 @@
+#![tactic(auto)]
 // Tables of rows of one width, in one slice of bytes: the account keys and the nonces that a unit holds. Inner calls: a table has room
 // for the rows that its count says.
 ghost use Rattle.std.specs.Prelude.{◌≡◌, ◌*◌, ◌≤◌, ◌<◌, length, drop, get_or, []};
-ghost use Rattle.tables.specs.Rows.{rows, among as isAmong, distinct as areDistinct};
+ghost use Rattle.tables.specs.Rows.{rows, among as is_among, distinct as are_distinct};
 
 // The row at a place below the count.
 pub fn row(table: &[u8], width: usize, count: usize, place: usize) -> &[u8]
@@ -15,7 +16,7 @@ pub fn row(table: &[u8], width: usize, count: usize, place: usize) -> &[u8]
 // Whether these bytes are a row from a place up to the count.
 pub fn among(bytes: &[u8], table: &[u8], width: usize, from: usize, count: usize) -> bool
     requires { (from ≤ count) × (count * width ≤ length table.now) }
-    ensures { result ≡ isAmong bytes.now (drop from (rows width count table.now)) }
+    ensures { result ≡ is_among bytes.now (drop from (rows width count table.now)) }
 {
     let mut i = from;
     while i < count {
@@ -30,7 +31,7 @@ pub fn among(bytes: &[u8], table: &[u8], width: usize, from: usize, count: usize
 // Whether no two of the first `count` rows are equal: each is held against those after it.
 pub fn distinct(table: &[u8], width: usize, count: usize) -> bool
     requires { count * width ≤ length table.now }
-    ensures { result ≡ areDistinct (rows width count table.now) }
+    ensures { result ≡ are_distinct (rows width count table.now) }
 {
     let mut i = count;
     while 0 < i {

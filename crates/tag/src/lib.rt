@@ -1,3 +1,4 @@
+#![tactic(auto)]
 // The calls of the tag. A unit goes in by value and comes back with the call's end. Any bytes and any record may be handed in: each call
 // ends with a result or with one refusal, in the order of its comment. A write refused with 0x80, 0x81 or 0x82 spends the nonce; any
 // other refusal leaves the unit as it was; no refusal writes a lent byte.
@@ -6,7 +7,7 @@ ghost use Rattle.unit.specs.Outcome.{Answers, Completes};
 ghost use Rattle.time.specs.Passing.{Passes};
 ghost use Rattle.sleep.specs.Sleep.{Sleeps};
 ghost use Rattle.settings_calls.specs.Settings.{new_unit};
-ghost use Rattle.tag.specs.Calls.{call, elapsed as elapsedOf};
+ghost use Rattle.tag.specs.Calls.{call, elapsed as elapsed_of};
 ghost use Rattle.tag.specs.Calls as of;
 
 use key_calls::{accounts, connection};
@@ -66,7 +67,7 @@ pub fn button(u: TagUnit, answer: &mut [u8]) -> Step
 
 // Time: any number of tenths. A ring that ends gives its notice and the tenth at which it ended. Refusals: 6, 2.
 pub fn elapsed(u: TagUnit, tenths: u32, answer: &mut [u8]) -> Passed
-    ensures { Passes (elapsedOf tenths (length answer.old) u) result.unit result.reply result.ended answer.old answer.new }
+    ensures { Passes (elapsed_of tenths (length answer.old) u) result.unit result.reply result.ended answer.old answer.new }
 {
     if answer.len() < ANSWER_ROOM {
         return time::refused(u, Refusal::NoRoom);

@@ -1,3 +1,4 @@
+#![tactic(auto)]
 // Time that passes, any number of tenths at once.
 ghost use Rattle.std.specs.Prelude.{◌≡◌, true, ◌-◌, ◌≤◌, length};
 ghost use Rattle.unit.specs.declared.Reply.{Reply};
@@ -10,7 +11,7 @@ ghost use Rattle.time.specs.Later.{clock_later, unit_later};
 use unit::{Clock, Refusal, Reply, Sound, TagUnit, change};
 
 // A step of time: the unit, the end, and the tenth, counted from the call's start, at which a ring ended, or 0.
-#[derive(Drop)]
+#[derive(Clone, Copy)]
 pub struct Passed {
     pub unit: TagUnit,
     pub reply: Reply,

@@ -1,6 +1,6 @@
 // A unit with one thing changed. A field that is an enum is not stored to: the record is made anew.
 ghost use Rattle.std.specs.Prelude.{◌≡◌};
-ghost use Rattle.unit.specs.Change.{fresh as freshUnit, no_unit, no_identity, with_owner, with_protection, with_sound, silenced as silencedUnit, spent as spentUnit};
+ghost use Rattle.unit.specs.Change.{fresh as fresh_unit, no_unit, no_identity, with_owner, with_protection, with_sound, silenced as silenced_unit, spent as spent_unit};
 
 use crate::{Accounts, Clock, Identity, Owner, Protection, Settings, Sound, TagUnit};
 use sizes::{IDENTITY_KEY_SIZE, KEYS_ROOM, NONCE_SIZE};
@@ -10,7 +10,7 @@ const NO_LEVEL: u8 = 255;
 
 // A unit fresh from the maker, with its settings.
 pub fn fresh(s: Settings) -> TagUnit
-    ensures { result ≡ freshUnit s }
+    ensures { result ≡ fresh_unit s }
 {
     TagUnit {
         settings: s,
@@ -112,7 +112,7 @@ pub fn with_sound(u: TagUnit, sound: Sound, ring_nonce: [u8; NONCE_SIZE]) -> Tag
 
 // The unit silent: no sound, and zeros where the ring's nonce was.
 pub fn silenced(u: TagUnit) -> TagUnit
-    ensures { result ≡ silencedUnit u }
+    ensures { result ≡ silenced_unit u }
 {
     with_sound(u, Sound::Silent, [0; NONCE_SIZE])
 }
@@ -128,7 +128,7 @@ pub fn with_protection(u: TagUnit, protection: Protection) -> TagUnit
 
 // The unit with its newest nonce spent: it stays, and authenticates no further write.
 pub fn spent(u: TagUnit) -> TagUnit
-    ensures { result ≡ spentUnit u }
+    ensures { result ≡ spent_unit u }
 {
     let nonces = nonces::spent(u.nonces);
     let mut after = u;

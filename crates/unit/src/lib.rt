@@ -1,3 +1,4 @@
+#![tactic(auto)]
 // What a tag unit holds: the unit record of the paper's "What a unit holds", by value. Any values at all may stand in a record;
 // the crate `well_formed` judges them.
 
@@ -9,7 +10,7 @@ pub mod end;
 pub mod mask;
 
 // Calibrated power in dBm at 0 m, the number of components that can ring, and whether the volume is selectable (0 or 1).
-#[derive(Drop)]
+#[derive(Clone, Copy)]
 pub struct Settings {
     pub power: i32,
     pub components: u8,
@@ -17,21 +18,21 @@ pub struct Settings {
 }
 
 // Seconds and a tenth of a second, 0 to 9.
-#[derive(Drop)]
+#[derive(Clone, Copy)]
 pub struct Clock {
     pub seconds: u32,
     pub tenth: u8,
 }
 
 // The owner's place among the account keys.
-#[derive(Drop)]
+#[derive(Clone, Copy)]
 pub enum Owner {
     Nobody,
     Place(usize),
 }
 
 // The account keys in order of use, the most recent first, a table of which the first `count` rows are held, and the owner among them.
-#[derive(Drop)]
+#[derive(Clone, Copy)]
 pub struct Accounts {
     pub count: usize,
     pub owner: Owner,
@@ -39,27 +40,27 @@ pub struct Accounts {
 }
 
 // An identity key (ephemeral identity key), if there is one.
-#[derive(Drop)]
+#[derive(Clone, Copy)]
 pub struct Identity {
     pub held: bool,
     pub bytes: [u8; IDENTITY_KEY_SIZE],
 }
 
 // Silent, or ringing the components of a mask at a volume, with the tenths left.
-#[derive(Drop)]
+#[derive(Clone, Copy)]
 pub enum Sound {
     Silent,
     Ringing { mask: u8, volume: u8, left: u16 },
 }
 
 // Unwanted tracking protection: off, or on with the flag that lets a ring skip authentication.
-#[derive(Drop)]
+#[derive(Clone, Copy)]
 pub enum Protection {
     Off,
     On { skip: bool },
 }
 
-#[derive(Drop)]
+#[derive(Clone, Copy)]
 pub struct TagUnit {
     pub settings: Settings,
     pub clock: Clock,
@@ -81,7 +82,7 @@ pub struct TagUnit {
 }
 
 // The refusals of the paper's list; `refusal_number` in specs/Refusals gives each its number.
-#[derive(Drop)]
+#[derive(Clone, Copy)]
 pub enum Refusal {
     NotAuthenticated,
     InvalidValue,
@@ -95,14 +96,14 @@ pub enum Refusal {
 }
 
 // The end of a call: how many answer bytes it wrote, or its refusal.
-#[derive(Drop)]
+#[derive(Clone, Copy)]
 pub enum Reply {
     Done(usize),
     Refused(Refusal),
 }
 
 // The unit after a call, and the call's end.
-#[derive(Drop)]
+#[derive(Clone, Copy)]
 pub struct Step {
     pub unit: TagUnit,
     pub reply: Reply,

@@ -1,3 +1,4 @@
+#![tactic(auto)]
 // Whether a record is well formed: one function for each line of the paper's "What a unit holds".
 ghost use Rattle.std.specs.Prelude.{◌≡◌, not, ◌&&◌, ◌||◌, leb, eqb, ◌≤◌};
 ghost use Rattle.sizes.specs.Sizes.{most_components, highest_volume, full_consent, highest_battery};

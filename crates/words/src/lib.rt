@@ -1,3 +1,4 @@
+#![tactic(auto)]
 // A word of 32 bits as its four bytes, the first byte highest, and a state of AES as four words (FIPS 197, §3.5: "the four bytes in each column
 // of the State array form 32-bit words").
 ghost use Rattle.std.specs.Prelude.{◌≡◌, [], ◌∷◌};

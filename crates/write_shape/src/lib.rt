@@ -1,3 +1,4 @@
+#![tactic(auto)]
 // The shape of a write: whether ID, length byte and count are legal, and its first ten bytes.
 ghost use Rattle.std.specs.Prelude.{◌≡◌, ◌≤◌, length, drop};
 ghost use Rattle.sizes.specs.Sizes.{head_size};
