@@ -17,7 +17,7 @@ use Rattle.key_schedule.specs.Expansion.{KeyExpansion}
 use Rattle.steps.proofs.State.{long_round_key}
 use Rattle.substitution.proofs.Maps.{map_agree}
 use Rattle.substitution.proofs.Bytes.{Bytes}
-use Rattle.substitution.proofs.Boxes.{InvSBox-SBox, SBox-InvSBox}
+use Rattle.substitution.proofs.BoxLaws.{InvSBox-SBox, SBox-InvSBox}
 use Rattle.steps.proofs.Mixing.{InvMixColumns-MixColumns, MixColumns-InvMixColumns}
 use Rattle.key_schedule.proofs.Expansion.{length_schedule, bytes_schedule}
 use Rattle.rounds.proofs.States.{State, state_inv_shift, state_mix, state_inv_mix, substituted, restored, state_substituted, state_restored, state_key, state_rounds}

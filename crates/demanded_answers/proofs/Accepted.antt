@@ -48,7 +48,7 @@ use Rattle.read_call.specs.Read.{issuing}
 use Rattle.tag.specs.Calls.{read, own, guarded, call, Act, calls, act}
 use Rattle.demanded_answers.specs.History.{step, sends}
 use Rattle.demanded_answers.specs.Spelled.{key_at_place, nonce_at_place, OwnedWith, NonceSpent, OnlySpends}
-use Rattle.demanded_answers.specs.Accepted.{Serves, Open, sent, answer, First, owner_bit, standing, brought_first, owner_once_first, KeyUsed, OwnerKnown, Awaits, Cleared, start_notice, stop_notice, fail_notice, RingLegal, ring_bytes, RingTag, signed as signedTag, skipped, NoneReached, Reached, Stoppable, silent, part_reached, Rings, Stopped, Protects, Issued, Accepted}
+use Rattle.demanded_answers.specs.Accepted.{Serves, Open, sent, answer, First, owner_bit, standing, brought_first, owner_once_first, KeyUsed, OwnerKnown, Awaits, Cleared, start_notice, stop_notice, fail_notice, RingLegal, ring_bytes, RingTag, signed as signed_tag, skipped, NoneReached, Reached, Stoppable, silent, part_reached, Rings, Stopped, Protects, Issued, Accepted}
 use Rattle.demanded_answers.proofs.RecordLines.{key_at, nonce_at, among_found}
 use Rattle.demanded_answers.proofs.EphemeralIdentifier.{standing_is}
 use Rattle.demanded_answers.proofs.Spelling.{parameters_are, timeout_is, meant, ring_legal_lem, stop_legal, owner_at, claimed_owner, claimed_count, claimed_keys, first_keys, used_owner, owner_bit_lem, sound_state_lem}
@@ -235,13 +235,13 @@ few {u} ready = (lines u ready.formed).settings.components
 -- A 0x05 with a tag that passes comes to its judgement
 tag_eight : {u : TagUnit} {a tag : List ℕ} → RingTag u a tag → length tag ≡ 8
 unfolding request_tag derived_key
-tag_eight {u} {a} signedTag = length_request_tag (ring_key u.identity.bytes) u.nonces.newest 0x05 12 a
+tag_eight {u} {a} signed_tag = length_request_tag (ring_key u.identity.bytes) u.nonces.newest 0x05 12 a
 tag_eight (skipped skip eight) = eight
 
 tag_passes : {u : TagUnit} {a tag : List ℕ} → RingTag u a tag
     → skips u.protection || tagged (ring_key u.identity.bytes) u.nonces.newest (request_of 0x05 12 tag a) ≡ true
 unfolding request_tag derived_key
-tag_passes {u} {a} signedTag = or_right (skips u.protection) (own_tag (ring_key u.identity.bytes) u.nonces.newest 0x05 12 a)
+tag_passes {u} {a} signed_tag = or_right (skips u.protection) (own_tag (ring_key u.identity.bytes) u.nonces.newest 0x05 12 a)
 tag_passes (skipped skip eight) = rw skip
 
 module _ (u : TagUnit) (reach room : ℕ) (a tag : List ℕ) (four : 8 + length a ≡ 12) (ready : Open u reach room) (held : u.identity.held ≡ true)

@@ -52,7 +52,7 @@ long_enough w legal id =
     size (inr e) = omega (arith, eqb-true (get_or w 1 0) 48 (sym (or_false _) ∙ e))
 
 -- what an accepted 0x02 made of the unit
-was_set : {u v : TagUnit} {q : Request} {answer : List ℕ} → Did u q (accepts v answer) → q.id ≡ 0x02
+was_set : {u : TagUnit} {q : Request} {v : TagUnit} {answer : List ℕ} → Did u q (accepts v answer) → q.id ≡ 0x02
     → (key : List ℕ) × (owner_key u.accounts ≡ some key) × (v ≡ awaiting (decrypted_key key q.additional) (after_use key u))
 was_set (set key e o) id = (key, o, refl)
 was_set (clear e) id = absurd (omega arith)
@@ -61,7 +61,7 @@ was_set (used k a) id = absurd (k.not_set id)
 was_set (other k a) id = absurd (omega arith)
 
 -- what an accepted 0x04 answered
-was_recovered : {u v : TagUnit} {q : Request} {answer : List ℕ} → Did u q (accepts v answer) → q.id ≡ 0x04
+was_recovered : {u : TagUnit} {q : Request} {v : TagUnit} {answer : List ℕ} → Did u q (accepts v answer) → q.id ≡ 0x04
     → (key : List ℕ) × (owner_key u.accounts ≡ some key) × (data_of answer ≡ encrypted_key key u.identity.bytes)
 was_recovered (set key e o) id = absurd (omega arith)
 was_recovered (clear e) id = absurd (omega arith)

@@ -54,7 +54,7 @@ barred_keeps : (c : Act) (u : TagUnit) (n : ℕ) → step c u ≡ refusing n u �
 barred_keeps c u n e bars =
     keep (λ i. not_both c u e (issues_succeeds i)) (λ p. bars (passes_guards p).0 (passes_guards p).1) (ap (λ (o : Outcome). o.unit.nonces) e)
 
-did_nonce : {u v : TagUnit} {q : Request} {answer : List ℕ} → Did u q (accepts v answer) → v.nonces ≡ u.nonces
+did_nonce : {u : TagUnit} {q : Request} {v : TagUnit} {answer : List ℕ} → Did u q (accepts v answer) → v.nonces ≡ u.nonces
 unfolding cleared
 did_nonce (set key e o) = refl
 did_nonce (clear e) = refl

@@ -40,7 +40,7 @@ use Rattle.requests.specs.Write.{key_there, judged, written}
 use Rattle.tag.specs.Calls.{Written, own}
 use Rattle.demanded_answers.specs.Spelled.{key_at_place, OwnedWith}
 use Rattle.demanded_answers.specs.History.{step, writes}
-use Rattle.demanded_nonces.specs.Nonces.{MayTag, parameters, state, key_set, cleared as mayClear, recovery, ring as mayRing, sound_state, protected, unprotected}
+use Rattle.demanded_nonces.specs.Nonces.{MayTag, parameters, state, key_set, cleared as may_clear, recovery, ring as may_ring, sound_state, protected, unprotected}
 use Rattle.demanded_refusals.proofs.Choices.{tested}
 use Rattle.demanded_answers.proofs.Judging.{data_signed, status_signed}
 use Rattle.demanded_answers.proofs.Guards.{Met, barred, passed, met, not_both}
@@ -145,7 +145,7 @@ module _ (u : TagUnit) (w : well_formed u ≡ true) (q : Request) (reach : ℕ) 
   unfolding clear_key cleared
   clear_judged e =
       with_key (signed_by_owner u q) _
-      (λ key f. checked (proves u q.additional) 0x80 (λ ok. granted (by_owner key f (λ o. rw e (mayClear o))) (clears e refl refl)))
+      (λ key f. checked (proves u q.additional) 0x80 (λ ok. granted (by_owner key f (λ o. rw e (may_clear o))) (clears e refl refl)))
 
   recover_judged : q.id ≡ 0x04 → J (recover_key u q)
   unfolding recover_key signed derived_key
@@ -164,7 +164,7 @@ module _ (u : TagUnit) (w : well_formed u ≡ true) (q : Request) (reach : ℕ) 
     where
       go : (skips u.protection ≡ true) ⊎ (tagged (ring_key u.identity.bytes) (last_nonce u) q ≡ true) → Authorised u q
       go (inl s) = unasked e (skips_on u.protection s)
-      go (inr s) = signed_by (ring_key u.identity.bytes) (rw e mayRing) s
+      go (inr s) = signed_by (ring_key u.identity.bytes) (rw e may_ring) s
 
   -- a stop, by what sounds, and a ring
   abbrev Rung : Decision → Type 0

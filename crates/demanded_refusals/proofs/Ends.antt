@@ -39,7 +39,7 @@ use Rattle.key_calls.specs.Keys.{keeping, disconnected}
 use Rattle.settings_calls.specs.Settings.{charged, new_unit}
 use Rattle.tag.specs.Calls.{Written, read, write, button, pairing, battery, account_key, disconnect, frame, own, Act, calls, waits}
 use Rattle.demanded_answers.specs.History.{step}
-use Rattle.demanded_refusals.specs.Ends.{Spending, Plain, Ended, OnlyWrites, Made, Demand1, not_authenticated, invalid_value, no_consent, out_of_range, not_well_formed, wrong_nonce, wrong_account_key, no_frame, no_room, with_answer, refused_spent, refused_same, made, none as notMade}
+use Rattle.demanded_refusals.specs.Ends.{Spending, Plain, Ended, OnlyWrites, Made, Demand1, not_authenticated, invalid_value, no_consent, out_of_range, not_well_formed, wrong_nonce, wrong_account_key, no_frame, no_room, with_answer, refused_spent, refused_same, made, none as not_made}
 use Rattle.demanded_refusals.proofs.Choices.{either}
 use Rattle.demanded_answers.proofs.Guards.{room_for, own_of, act_guarded}
 
@@ -192,7 +192,7 @@ new_units power components selectable = go (settings_legal s) refl
 
     go : (b : Bool) → settings_legal s ≡ b → Made power components selectable
     go true e = made (rw e) (rw e)
-    go false e = notMade (rw e) (rw e) no_unit_lem
+    go false e = not_made (rw e) (rw e) no_unit_lem
 
 pub demand1 : Demand1
 demand1 =

@@ -30,7 +30,7 @@ use Rattle.read_call.specs.Read.{issuing}
 use Rattle.press_call.specs.Press.{pressed}
 use Rattle.key_calls.specs.Keys.{keeping, disconnected}
 use Rattle.settings_calls.specs.Settings.{charged}
-use Rattle.tag.specs.Calls.{Written, read, write, button, pairing, battery, account_key, disconnect, frame, own as ownCall, Act, calls, waits}
+use Rattle.tag.specs.Calls.{Written, read, write, button, pairing, battery, account_key, disconnect, frame, own as own_call, Act, calls, waits}
 use Rattle.demanded_answers.specs.History.{step}
 use Rattle.demanded_answers.specs.Spelled.{key_at_place, nonce_at_place}
 use Rattle.demanded_answers.specs.RecordLines.{RecordLines}
@@ -111,7 +111,7 @@ from_found n (refused {n = m} f) e = let same : m ≡ n = cc in rw same at f
 
 module _ (u : TagUnit) (n : ℕ) (l : RecordLines u) (right : well_formed u ≡ true) where
   pub own_only : (a : Act) → 42 ≤ room_for a → (own_of a u).result ≡ refuses n → Own u a n
-  unfolding ownCall disconnected
+  unfolding own_call disconnected
   own_only (calls (read nonce) room) fits e = from_found n (read_found u l nonce room) e
   own_only (calls (write w) room) fits e = go (true_or_false (inside w.reach u.settings.components))
     where
@@ -162,7 +162,7 @@ module _ (u : TagUnit) (l : RecordLines u) where
   no_frame_lem e = rw e
 
   pub own_refuses : {a : Act} {n : ℕ} → Own u a n → well_formed u ≡ true → 42 ≤ room_for a → (step a u).result ≡ refuses n
-  unfolding ownCall
+  unfolding own_call
   own_refuses {a} (nonce_length {nonce} h) right fits = rw (through a u fits right, nonce_refused nonce (not_eight nonce h))
   own_refuses {a} (nonce_held {nonce} p held e) right fits = rw (through a u fits right, nonce_refused nonce (again nonce p held e))
   own_refuses {a} (reach_outside {w} i k b) right fits =

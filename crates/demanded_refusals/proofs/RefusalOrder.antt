@@ -24,7 +24,7 @@ use Rattle.unit.specs.Outcome.{Outcome, refusing}
 use Rattle.unit.proofs.Lines.{SettingsLines, settings_lines, settings_legal_lem}
 use Rattle.settings_calls.specs.Settings.{new_unit}
 use Rattle.tag.specs.Calls.{Act}
-use Rattle.demanded_refusals.specs.Ends.{Spending, Plain, Ended, not_authenticated, invalid_value, no_consent, out_of_range, not_well_formed as plainNotWellFormed, wrong_nonce, wrong_account_key, no_frame, no_room, with_answer, refused_spent, refused_same}
+use Rattle.demanded_refusals.specs.Ends.{Spending, Plain, Ended, not_authenticated, invalid_value, no_consent, out_of_range, not_well_formed as plain_not_well_formed, wrong_nonce, wrong_account_key, no_frame, no_room, with_answer, refused_spent, refused_same}
 use Rattle.demanded_answers.specs.History.{step}
 use Rattle.demanded_answers.specs.Spelled.{OnlySpends}
 use Rattle.demanded_refusals.specs.RefusalOrder.{Refusal, too_little_room, not_well_formed, own, OutOfRange, power_too_low, power_too_high, too_many_components, selectable_over_one, RefusalOrder}
@@ -69,7 +69,7 @@ module _ (a : Act) (u : TagUnit) (n : ℕ) where
 
   plain_below : {m : ℕ} → Plain m → m < 0x80
   plain_below out_of_range = omega arith
-  plain_below plainNotWellFormed = omega arith
+  plain_below plain_not_well_formed = omega arith
   plain_below wrong_nonce = omega arith
   plain_below wrong_account_key = omega arith
   plain_below no_frame = omega arith

@@ -22,7 +22,7 @@ use Rattle.demanded_answers.specs.History.{step}
 use Rattle.demanded_time.specs.Time.{Notification, World, at, bytes_given, noticed, called, slept, ran, runs}
 use Rattle.demanded_nonces.specs.Among.{NoneIn, tenths_in}
 use Rattle.demanded_answers.specs.Spelled.{key_from}
-use Rattle.demanded_time.specs.RingLasts.{timeout_from, unfailed, Disturbs, pressed, rung as ringAgain, cleared as key_cleared, brought_in as newKey}
+use Rattle.demanded_time.specs.RingLasts.{timeout_from, unfailed, Disturbs, pressed, rung as ring_again, cleared as key_cleared, brought_in as new_key}
 use Rattle.demanded_refusals.proofs.Formed.{formed}
 use Rattle.demanded_answers.proofs.Judging.{status_signed}
 use Rattle.demanded_nonces.proofs.WritesOnSound.{Left}
@@ -89,10 +89,10 @@ unfolding ran
 call_turn c room v (calmly calm) free = idle refl (calm_idle c room v calm)
 call_turn c room v (pressed_silent p s) free = absurd (free (pressed p))
 call_turn c room v (pressed_ringing p e) free = absurd (free (pressed p))
-call_turn c room v (rung a unfails e) free = absurd (free (ringAgain a unfails))
+call_turn c room v (rung a unfails e) free = absurd (free (ring_again a unfails))
 call_turn c room v (failed leaves unheard) free = idle refl (failed_idle c room v leaves unheard)
 call_turn c room v (cleared a e) free = absurd (free (key_cleared a))
-call_turn c room v (brought_in b e) free = absurd (free (newKey b))
+call_turn c room v (brought_in b e) free = absurd (free (new_key b))
 
 module _ (n room : ℕ) (v : World) where
   slept_later : leb 42 room ≡ true → step (waits n room) v.unit ≡ tenths n v.unit → Later n v (slept n room v)

@@ -3,17 +3,17 @@ use Rattle.std.specs.Prelude.{ℕ, ◌≡◌, Bool, List, replicate}
 use Rattle.sizes.specs.Sizes.{identifier_size}
 use Rattle.frame.specs.declared.Flags.{Flags}
 use Rattle.frame_opener.specs.declared.SeenWithR.{SeenWithR}
-use Rattle.frame_opener.specs.declared.SeenWithR.TheVariants as seenWithR
+use Rattle.frame_opener.specs.declared.SeenWithR.TheVariants as seen_with_r
 use Rattle.frame_opener.specs.declared.ScannedWithR.{ScannedWithR}
 use Rattle.frame_opener.specs.Opener.{Opened, wrong_size, opened_by}
 use Rattle.frame_reader.specs.Reader.{Reading, reads, refused, wrong_byte}
 
 -- an answer beside the identifier's bytes
 abbrev pub seen_with_r_as : List ℕ → SeenWithR → Reading Opened
-seen_with_r_as id (seenWithR.Frame on flags battery) =
+seen_with_r_as id (seen_with_r.Frame on flags battery) =
     reads (record { parts = record { identifier = id; protected = on; flags = flags }; battery = battery })
-seen_with_r_as id (seenWithR.WrongByte place) = refused wrong_byte place
-seen_with_r_as id seenWithR.WrongSize = refused wrong_size 0
+seen_with_r_as id (seen_with_r.WrongByte place) = refused wrong_byte place
+seen_with_r_as id seen_with_r.WrongSize = refused wrong_size 0
 
 -- the identifier's bytes: zeros on a refusal
 abbrev pub identifier_in_opened : Reading Opened → List ℕ

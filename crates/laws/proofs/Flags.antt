@@ -45,12 +45,12 @@ pub or_false : (a : Bool) → a || false ≡ a
 or_false true = refl
 or_false false = refl
 
--- What a call found, where its answer is tested as `!answer`
-pub granted : {answer a : Bool} → answer ≡ a → not answer ≡ false → a ≡ true
-granted e h = sym e ∙ not-false _ h
+-- What a call found, where its answer is tested
+pub granted : {answer a : Bool} → answer ≡ a → answer ≡ true → a ≡ true
+granted e h = sym e ∙ h
 
-pub refuted : {answer a : Bool} → answer ≡ a → not answer ≡ true → a ≡ false
-refuted e h = sym e ∙ not-true _ h
+pub refuted : {answer a : Bool} → answer ≡ a → answer ≡ false → a ≡ false
+refuted e h = sym e ∙ h
 
 -- A test that cannot hold fails; two tests that hold together are the same
 pub fails : (a : Bool) → (a ≡ true → ⊥) → a ≡ false

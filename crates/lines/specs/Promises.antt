@@ -8,7 +8,7 @@ use Rattle.lines.specs.declared.Awaited.TheVariants as awaited
 use Rattle.lines.specs.declared.Next.{Next}
 use Rattle.lines.specs.declared.Next.TheVariants as next
 use Rattle.lines.specs.declared.Line as told
-use Rattle.lines.specs.declared.Line.TheVariants as toldAs
+use Rattle.lines.specs.declared.Line.TheVariants as told_as
 use Rattle.lines.specs.declared.Told.{Told}
 use Rattle.lines.specs.Lines as lines
 use Rattle.lines.specs.Lines.{Awaited, Expected, inside, power, components, volume, nonce, «data», reach, tenths, on, level, key_bytes, Line, follows, brings, sets_up, breaks, given}
@@ -32,13 +32,13 @@ expecting (next.Inside a) p c b = inside (awaiting a p c b)
 
 -- a line of the code, with what was read before it, its number and its bytes
 abbrev pub line_of : told.Line → ℤ → ℕ → List ℕ → ℕ → List ℕ → Line
-line_of (toldAs.Power z) p c kept n b = follows (components z)
-line_of toldAs.Components p c kept n b = follows (volume p n)
-line_of toldAs.Volume p c kept n b = sets_up p c n
-line_of (toldAs.Follows a) p c kept n b = follows (awaiting a p c kept)
-line_of (toldAs.Keeps a) p c kept n b = follows (awaiting a p c b)
-line_of (toldAs.Brings e) p c kept n b = brings (event_of e n kept b)
-line_of toldAs.Breaks p c kept n b = breaks
+line_of (told_as.Power z) p c kept n b = follows (components z)
+line_of told_as.Components p c kept n b = follows (volume p n)
+line_of told_as.Volume p c kept n b = sets_up p c n
+line_of (told_as.Follows a) p c kept n b = follows (awaiting a p c kept)
+line_of (told_as.Keeps a) p c kept n b = follows (awaiting a p c b)
+line_of (told_as.Brings e) p c kept n b = brings (event_of e n kept b)
+line_of told_as.Breaks p c kept n b = breaks
 
 -- a line of the code stands for this one, whatever was read before and stands beside it
 pub record Means (l : Line) (line : told.Line) : Type 0 where

@@ -5,7 +5,7 @@ use Rattle.reading.specs.Reading.{all_digits, value_from}
 use Rattle.reading.specs.declared.Numeral.{Numeral}
 use Rattle.reading.specs.declared.Numeral.TheVariants as numeral
 use Rattle.reading.specs.declared.SignedNumeral.{SignedNumeral}
-use Rattle.reading.specs.declared.SignedNumeral.TheVariants as signedNumeral
+use Rattle.reading.specs.declared.SignedNumeral.TheVariants as signed_numeral
 use Rattle.reading.specs.declared.Switch.{Switch}
 use Rattle.reading.specs.declared.Switch.TheVariants as switch
 
@@ -14,8 +14,8 @@ numeral_of (numeral.Value n) = some n
 numeral_of numeral.Wrong = none
 
 abbrev pub signed_numeral_of : SignedNumeral → Option ℤ
-signed_numeral_of (signedNumeral.Value z) = some z
-signed_numeral_of signedNumeral.Wrong = none
+signed_numeral_of (signed_numeral.Value z) = some z
+signed_numeral_of signed_numeral.Wrong = none
 
 abbrev pub switch_of : Switch → Option Bool
 switch_of (switch.Value b) = some b

@@ -17,7 +17,7 @@ pub from_bits : {p : ℤ} → SFits w32 p → to_z w32 (of_z w32 p) ≡ p
 from_bits h = to_z-of_z h
 
 pub from_wide_bits : {p : ℤ} → SFits w32 p → to_z w64 (of_z w64 p) ≡ p
-from_wide_bits h = to_z-of_z (sfits_widen tt h)
+from_wide_bits h = to_z-of_z {w = w64} (sfits_widen {w = w32} {w' = w64} tt h)
 
 -- a power below 0 and 2^32 give the word; one that is not is the word
 pub below_zero : (p : ℤ) → SFits w32 p → lt_z p (pos 0) ≡ true → p +ℤ pos 4294967296 ≡ pos (power_word p)

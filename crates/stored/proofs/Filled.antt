@@ -1,5 +1,5 @@
 -- What bytes mean always fits: the unit that is read from the bytes of a record is one that has a record.
-use Prim.Native.Nat.{ℕ, zero, suc, ◌+◌, ◌-◌, ◌^◌, ◌≤◌, ◌<◌}
+use Prim.Native.Nat.{ℕ, zero, suc, ◌+◌, ◌-◌, ◌^◌, ◌≤◌, ◌<◌, ◌*◌}
 use mathlib.Core.Path.{◌≡◌, refl}
 use mathlib.Core.Bool.{Bool, true, false, cond}
 use mathlib.Core.List.{List, [], ◌∷◌}
@@ -39,7 +39,7 @@ unfolding number_after
 after_small v k [] h s = rw (add-zero k) h
 after_small v k (x ∷ xs) h s =
     let place : k + suc (length xs) ≡ k + 1 + length xs = omega arith in
-    rw place (after_small _ (k + 1) xs (number_grows v k x h (s 0)) (λ j. s (suc j)))
+    rw place (after_small (v * 256 + x) (k + 1) xs (number_grows v k x h (s 0)) (λ j. s (suc j)))
 
 module _ (b : List ℕ) (s : Octets b) (at : ℕ) where
   number_fits : (n : ℕ) → at + n ≤ length b → number (run b at n) < 256 ^ n

@@ -1,0 +1,13 @@
+-- `secp256r1::domain` meets its contract: computed tests.
+use mathlib.Core.Path.{refl}
+use Rattle.limbs.specs.Limbs.{over, value}
+use Rattle.curve_laws.specs.Curves.{SECP256R1}
+use Rattle.curves.proofs.Domains.{matches, works}
+use Rattle.curves.proofs.secp256r1.domain.Goals as goal
+
+pub returns : goal.returns
+unfolding over value SECP256R1
+returns c = (
+  matches SECP256R1 _ (tt, refl, tt, tt),
+  works _ (tt, tt, tt, tt, tt, (tt, tt, tt), tt, tt, (tt, tt, tt), (tt, tt, tt), tt, tt, tt, tt, tt),
+)

@@ -1,0 +1,11 @@
+-- `lines::read` meets its contract: an event's name, or a line inside.
+use Rattle.lines.specs.Lines.{taken}
+use Rattle.lines.proofs.ToldLines.{says_plain, says_at}
+use Rattle.lines.proofs.read.Goals as goal
+
+pub returns-in-Event : goal.returns-in-Event
+returns-in-Event c = says_at c.args.line.now c.in-Event.is (says_plain c.event.ensures c.plain.ensures)
+
+pub returns-in-Inside : goal.returns-in-Inside
+unfolding taken
+returns-in-Inside c = says_at c.args.line.now c.in-Inside.is c.inside.ensures

@@ -1,0 +1,7 @@
+-- `time::later` meets its contract: clock and consent are those of the definition.
+use Rattle.time.specs.Later.{unit_later}
+use Rattle.time.proofs.later.Goals as goal
+
+pub returns : goal.returns
+unfolding unit_later
+returns c = rw (c.clock_after-clock.ensures, c.consent_after-consent.ensures)
