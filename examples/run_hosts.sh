@@ -2,7 +2,7 @@
 # Builds the host in C and the host in Rust over the proved library, runs both, and compares what each prints with host_c/expected.txt.
 # Needs the Rattle kit (rt) where the library is not built yet, a C compiler (cc, or the one that CC names) and rustc, on x86-64 Linux. Where there is
 # a python3, compare/layout.py first holds the header to the definitions.
-# The library is built, and with it the crate `firmware` proved, only where it is missing or older than a source, a definition or a proof; crates
+# The library is built, and with it the crate `firmware_c` proved, only where it is missing or older than a source, a definition or a proof; crates
 # below that are proved already are not proved again.
 set -eu
 cd "$(dirname "$0")/.."
@@ -18,7 +18,7 @@ fi
 library=target/staticlib/libfirmware.a
 if [ ! -f "$library" ] || [ -n "$(find crates.txt crates/*/src crates/*/specs crates/*/proofs -newer "$library" -type f -print -quit 2> /dev/null)" ]; then
     command -v rt > /dev/null || { echo "run_hosts.sh: $library is to be built, and there is no rt" >&2; exit 2; }
-    rt staticlib firmware > /dev/null
+    tools/archive.sh > /dev/null
 fi
 out=target/hosts
 mkdir -p "$out"

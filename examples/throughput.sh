@@ -1,6 +1,6 @@
 #!/usr/bin/env bash
 # How fast the replay is, and how much memory it takes: a session file of 999,999 lines of mixed events without authentication work
-# (elapsed, pairing, battery, writes of a wrong shape), replayed by target/bin/tag_replay. Build it first: rt check tag_replay
+# (elapsed, pairing, battery, writes of a wrong shape), replayed by target/bin/tag_replay. Build it first: tools/program.sh tag_replay
 set -eu
 cd "$(dirname "$0")/.."
 file=$(mktemp)

@@ -17,7 +17,7 @@ for word; do
 done
 out=target/compare/speed
 mkdir -p $out
-[ $built ] || rt staticlib firmware > $out/staticlib.log
+[ $built ] || tools/archive.sh > $out/staticlib.log
 mbedtls=/usr
 if [ ! -e /usr/include/mbedtls/sha256.h ]; then
     mbedtls=$out/debian/usr

@@ -1,4 +1,4 @@
-// Links the proved library: target/staticlib/libfirmware.a, made by `rt staticlib firmware`.
+// Links the proved library: target/staticlib/libfirmware.a, made by tools/archive.sh.
 fn main() {
     let root = std::path::Path::new(env!("CARGO_MANIFEST_DIR")).join("../../target/staticlib");
     println!("cargo:rustc-link-search=native={}", root.display());

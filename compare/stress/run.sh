@@ -3,7 +3,7 @@
 # sleep, the frame reader. Usage: run.sh [CALLS] [SEED]; run.sh sleep [COUNT] [SEED]; run.sh frames [COUNT] [SEED]
 set -eu
 cd "$(dirname "$0")/../.."
-rt staticlib firmware > /dev/null
+tools/archive.sh > /dev/null
 cd compare/stress
 CARGO_TARGET_DIR=../../target/compare/stress cargo build --release --offline --quiet
 exec ../../target/compare/stress/release/stress "$@"

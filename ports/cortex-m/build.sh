@@ -27,22 +27,22 @@ triple_of() {
     esac
 }
 
-# A kit home of our own: links to the installed kit, but for clang, which keeps the module before the real one compiles it.
+# A kit home of our own: links to the installed kit, but for clang, which keeps the module before the real one compiles it. rt's own scripts are
+# copied: they take the folder where they stand for the kit.
 make_home() { # KIT HOME
-    local machine
-    machine=$(uname -m)
     rm -rf "$2"
-    mkdir -p "$2/on/$machine/toolchain/bin"
-    find "$1" -mindepth 1 -maxdepth 1 ! -name on -exec ln -s {} "$2/" \;
-    find "$1/on/$machine" -mindepth 1 -maxdepth 1 ! -name toolchain -exec ln -s {} "$2/on/$machine/" \;
-    find "$1/on/$machine/toolchain" -mindepth 1 -maxdepth 1 ! -name bin -exec ln -s {} "$2/on/$machine/toolchain/" \;
-    find "$1/on/$machine/toolchain/bin" -mindepth 1 -maxdepth 1 ! -name clang -exec ln -s {} "$2/on/$machine/toolchain/bin/" \;
-    cat >"$2/on/$machine/toolchain/bin/clang" <<END
-#!/bin/sh
+    mkdir -p "$2/bin" "$2/toolchain/bin"
+    find "$1" -mindepth 1 -maxdepth 1 ! -name bin ! -name toolchain -exec ln -s {} "$2/" \;
+    find "$1/bin" -mindepth 1 -maxdepth 1 ! -name 'rt*' -exec ln -s {} "$2/bin/" \;
+    find "$1/bin" -mindepth 1 -maxdepth 1 -name 'rt*' -exec cp -p {} "$2/bin/" \;
+    find "$1/toolchain" -mindepth 1 -maxdepth 1 ! -name bin -exec ln -s {} "$2/toolchain/" \;
+    find "$1/toolchain/bin" -mindepth 1 -maxdepth 1 ! -name clang -exec ln -s {} "$2/toolchain/bin/" \;
+    cat >"$2/toolchain/bin/clang" <<END
+#!/usr/bin/env bash
 for word; do case \$word in *.bc) /bin/cp "\$word" "$out/module.bc" || exit 1 ;; esac; done
-exec "$1/on/$machine/toolchain/bin/clang" "\$@"
+exec -a "\$0" "$1/toolchain/bin/clang" "\$@"
 END
-    chmod +x "$2/on/$machine/toolchain/bin/clang"
+    chmod +x "$2/toolchain/bin/clang"
 }
 
 # Proves the core and writes its x86-64 archive twice, plainly and with our kit home: the two must be the same bytes.
@@ -50,10 +50,10 @@ keep_module() { # KIT
     local archive=$root/target/staticlib/libfirmware.a
     make_home "$1" "$out/home"
     rm -f "$out/module.bc"
-    (cd "$root" && rt staticlib firmware) >"$out/rt.log" 2>&1 || { tail -n 20 "$out/rt.log" >&2; die "rt staticlib firmware failed"; }
+    "$root/tools/archive.sh" >"$out/rt.log" 2>&1 || { tail -n 20 "$out/rt.log" >&2; die "tools/archive.sh failed"; }
     cp "$archive" "$out/plain.a"
-    (cd "$root" && RATTLE_HOME=$out/home rt staticlib firmware) >"$out/rt.log" 2>&1 || { tail -n 20 "$out/rt.log" >&2; die "rt staticlib firmware failed"; }
-    grep -q '^logic=proved' "$out/rt.log" || die "the kit did not say that firmware is proved; $out/rt.log has what it said"
+    RT=$out/home/bin/rt "$root/tools/archive.sh" >"$out/rt.log" 2>&1 || { tail -n 20 "$out/rt.log" >&2; die "tools/archive.sh failed"; }
+    grep -q '^logic=proved' "$out/rt.log" || die "the kit did not say that firmware_c is proved; $out/rt.log has what it said"
     [ -f "$out/module.bc" ] || die "the kit handed no module to its clang"
     cmp "$out/plain.a" "$archive" || die "the x86-64 archive is another one when its module is kept"
     "$clang" --no-default-config -x ir -S -emit-llvm -O0 -Xclang -disable-llvm-passes "$out/module.bc" -o "$out/module.ll"
@@ -96,8 +96,8 @@ done
 need rt "it is the Rattle kit's command"
 need python3 "apt-get install python3"
 need arm-none-eabi-size "apt-get install gcc-arm-none-eabi"
-kit=${RATTLE_HOME:-$(dirname "$(dirname "$(readlink -f "$(command -v rt)")")")}
-tools=$kit/on/$(uname -m)/toolchain/bin
+kit=$(dirname "$(dirname "$(readlink -f "$(command -v rt)")")")
+tools=$kit/toolchain/bin
 clang=$tools/clang
 [ -x "$clang" ] || die "no clang at $tools"
 "$clang" --print-targets | grep -q '^ *thumb ' || die "the kit's clang has no ARM"

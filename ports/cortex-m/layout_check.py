@@ -2,9 +2,10 @@
 """Whether a module that was lowered for x86-64 means the same on a 32-bit ARM. Usage: layout_check.py MODULE.ll
 
 The module is taken only if every line has a form that is listed here, and none of these forms looks at the size of a pointer, at an address
-as a number, or at the order in which memory is laid out beyond what the text itself says (bytes at offsets, little-endian). What is
-refused by name: globals, casts between pointers and integers, copies of variable length, by-value and struct-return attributes, alignment
-above 8, and a place in memory that is used both as a pointer and as a number (places.py). Anything else that is not listed is refused as unknown.
+as a number, or at the order in which memory is laid out beyond what the text itself says (bytes at offsets, little-endian). A pointer may be held
+to null, as each export does with a slice's. What is refused by name: globals, casts between pointers and integers, copies of variable length,
+by-value and struct-return attributes, alignment above 8, and a place in memory that is used both as a pointer and as a number (places.py).
+Anything else that is not listed is refused as unknown.
 Ends with status 0 and one line, or with status 1 and one line for each refusal (20 at most)."""
 import re
 import sys
@@ -28,7 +29,7 @@ REFUSED = [
     (r"\b(?:ptrtoint|inttoptr|ptrtoaddr|addrspacecast|bitcast)\b", "a cast between a pointer and an integer"),
     (r"\b(?:byval|sret|inalloca|preallocated|byref)\b", "a by-value or struct-return attribute"),
     (r"@llvm\.mem(?:cpy|move|set)[\w.]*\((?:[^,]*, ){2}i(?:32|64) %", "a copy of variable length"),
-    (r"\bicmp \w+ ptr\b", "a comparison of pointers"),
+    (r"\bicmp \w+ ptr (?!%[\w.]+, null$)", "a comparison of pointers"),
     (r"\b(?:half|bfloat|float|double|fp128|i(?!1\b|8\b|16\b|32\b|64\b)\d+)\b|<\d+ x ", "a type other than a byte, an integer of up to 64 bits or a pointer"),
 ]
 
@@ -40,10 +41,11 @@ FORMS = [(name, re.compile(pattern + "$")) for name, pattern in [
     ("fixed", RESULT + r"getelementptr(?: inbounds)?(?: nuw)? i8, ptr (?P<at>%[\w.]+), i64 (?P<offset>\d+)"),
     ("moving", RESULT + r"getelementptr(?: inbounds)?(?: nuw)? i8, ptr (?P<at>%[\w.]+), i64 %[\w.]+"),
     ("copied", r"call void @llvm\.mem(?:cpy|move)\.p0\.p0\.i64\(ptr (?P<to>%[\w.]+), ptr (?P<at>%[\w.]+), i64 (?P<bytes>\d+), i1 false\)"),
-    ("filled", rf"call void @llvm\.memset\.p0\.i64\(ptr (?P<to>%[\w.]+), i8 {VALUE}, i64 (?P<bytes>\d+), i1 false\)"),
+    ("filled", rf"call void @llvm\.memset\.p0\.i64\(ptr (?P<to>%[\w.]+), i8 (?P<value>{VALUE}), i64 (?P<bytes>\d+), i1 false\)"),
     ("called", rf"(?:{RESULT})?call (?:void|{INTEGER}) (?P<name>{NAME})\((?P<values>[^()]*)\)"),
     ("number", RESULT + rf"{BINARY}{FLAGS} {INTEGER} {VALUE}, {VALUE}"),
     ("number", RESULT + rf"icmp {COMPARE} {INTEGER} {VALUE}, {VALUE}"),
+    ("number", RESULT + r"icmp (?:eq|ne) ptr %[\w.]+, null"),
     ("number", RESULT + rf"(?:zext|sext|trunc){FLAGS}(?: nneg)? {INTEGER} {VALUE} to {INTEGER}"),
     ("number", RESULT + rf"select i1 {VALUE}, {INTEGER} {VALUE}, {INTEGER} {VALUE}"),
     ("number", RESULT + rf"phi {INTEGER} \[.*\]"),

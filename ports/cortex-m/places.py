@@ -3,7 +3,8 @@
 A place is what one pointer of the text leads to: a slot, a parameter, or what is reached through a pointer kept in memory. Its bytes are counted as
 the text does, for pointers of 8 bytes. An access marks bytes as a pointer's first to eighth byte, or as a number. Marks go along copies, from
 arguments to parameters and back, and through kept pointers, until nothing changes; so it is found too when one function writes a pointer and
-another reads the same bytes as a number. The order of the instructions is not looked at. From a variable offset on a place holds numbers only."""
+another reads the same bytes as a number. The order of the instructions is not looked at. From a variable offset on a place holds numbers only.
+A fill with zeros marks nothing: they are the same as a number and as a pointer, whatever its size."""
 
 POINTER = 8  # bytes of a pointer in the text; on the 32-bit machine the first four of them are used
 WIDTH = {"i1": 1, "i8": 1, "i16": 2, "i32": 4, "i64": 8, "ptr": POINTER}
@@ -103,8 +104,9 @@ class Memory:
 
     def filled(self, line, function, found):
         place, offset = self.at(line, function, found["to"])
-        for k in range(int(found["bytes"])):
-            self.mark(place, offset + k, (-1, line))
+        if found["value"] != "0":
+            for k in range(int(found["bytes"])):
+                self.mark(place, offset + k, (-1, line))
         self.grow(place, offset + int(found["bytes"]))
 
     # ---- what follows from it

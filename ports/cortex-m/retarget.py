@@ -8,7 +8,7 @@ import re
 import sys
 
 # What the x86-64 functions have: the request for stack probes is dropped, for this back end has none for these CPUs.
-FUNCTION = re.compile(r'attributes #\d+ = \{ nounwind "probe-stack"="inline-asm" "target-cpu"="x86-64" \}$')
+FUNCTION = re.compile(r'attributes #\d+ = \{ nounwind "probe-stack"="inline-asm" "stack-probe-size"="\d+" "target-cpu"="x86-64(?:-v2)?" \}$')
 # What the copies and fills have, which stay.
 INTRINSIC = re.compile(r"attributes #\d+ = \{ nocallback nofree nounwind willreturn memory\(argmem: (?:readwrite|write)\) \}$")
 CPU = re.compile(r'"(?:target-cpu|target-features|use-soft-float)"="[^"]*"')

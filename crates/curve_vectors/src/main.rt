@@ -1,3 +1,4 @@
+#![tactic(auto)]
 // Multiples of the two curves' base points by the numbers on standard input, one to a line of 67 bytes: the curve (0 for SECP160R1, 1 for
 // SECP256R1), a space, the number in 64 hexadecimal digits and a newline. For each it prints r, the number modulo n, and the x coordinate of
 // r times G. After a 2 the number is an r', and it prints the r and the identifier of SECP160R1 that a tag works out from it, or that there is
@@ -10,69 +11,73 @@
 use curves::secp160r1::secp160r1;
 use curves::secp256r1::secp256r1;
 use hex_reading::{Octets, unhex};
-use libc::{STDIN_FILENO, STDOUT_FILENO};
 use notation::text::hex_line;
+use std::io;
+use std::io::Read;
+
+// The most lines that are answered.
+const MOST_LINES: u32 = 1000000;
 
 // Prints r and x.
-fn answer(r: &[u8], x: &[u8]) {
+fn answer(rt: &impl Print, r: &[u8], x: &[u8]) -> io::Result<()> {
     let mut out = [0u8; 256];
     if 64 < r.len() {
-        return;
+        return Ok(());
     }
     if 32 < x.len() {
-        return;
+        return Ok(());
     }
     let next = hex_line(&mut out, 0, b"r=", r);
     let end = hex_line(&mut out, next, b"x=", x);
-    io::write_all(STDOUT_FILENO, &out[..end]);
+    rt.write_all(&out[..end])
 }
 
-fn on_secp160r1(number: [u8; 32]) {
+fn on_secp160r1(rt: &impl Print, number: [u8; 32]) -> io::Result<()> {
     let m = secp160r1(number);
     let r = m.r;
     let x = m.x;
-    answer(&r, &x);
+    answer(rt, &r, &x)
 }
 
-fn on_secp256r1(number: [u8; 32]) {
+fn on_secp256r1(rt: &impl Print, number: [u8; 32]) -> io::Result<()> {
     let m = secp256r1(number);
     let r = m.r;
     let x = m.x;
-    answer(&r, &x);
+    answer(rt, &r, &x)
 }
 
-fn as_r_prime(number: [u8; 32]) {
+fn as_r_prime(rt: &impl Print, number: [u8; 32]) -> io::Result<()> {
     let i = identifier::from_number(number);
     if i.some {
         let r = i.r;
         let id = i.id;
-        answer(&r, &id);
+        answer(rt, &r, &id)
     } else {
-        io::write_all(STDOUT_FILENO, b"none\n");
+        rt.write_all(b"none\n")
     }
 }
 
 // Answers a line.
-fn line(text: [u8; 67]) {
+fn line(rt: &impl Print, text: [u8; 67]) -> io::Result<()> {
     let mut number = [0u8; 32];
     let Octets::Count(_) = unhex(&text[2..66], &mut number) else {
-        return;
+        return Ok(());
     };
     match text[0] {
-        b'0' => on_secp160r1(number),
-        b'1' => on_secp256r1(number),
-        _ => as_r_prime(number),
+        b'0' => on_secp160r1(rt, number),
+        b'1' => on_secp256r1(rt, number),
+        _ => as_r_prime(rt, number),
     }
 }
 
-fn main() {
-    let mut left: u32 = 1000000;
-    while 0 < left {
+fn main(rt: HostRuntime) -> io::Result<()> {
+    let mut input = rt.stdin();
+    for _ in 0..MOST_LINES {
         let mut text = [0u8; 67];
-        if libc::read(STDIN_FILENO, &mut text) != 67 {
-            return;
+        if input.read(&mut text)? != 67 {
+            break;
         }
-        line(text);
-        left -= 1;
+        line(&rt, text)?;
     }
+    Ok(())
 }

@@ -1,14 +1,24 @@
+#![tactic(auto)]
 // Reads scanned frames: standard input, or the file that its one argument names, with a frame in hexadecimal on each line. Prints for each line what
 // the frame says, or the refusal in words. What is printed is the library `frame_text`'s to promise: this program reads, hands on byte after byte,
 // and writes. Where the system fails, standard error says so, and nothing more is printed.
 use frame_text::{Line, Text};
-use libc::{STDERR_FILENO, STDOUT_FILENO};
+use std::env::FillError;
+use std::io::{Error, ErrorKind, Read};
+use std::rt::{Env, Files};
+use std::{fs, io};
+
+// The longest path.
+const MOST_PATH: usize = 4096;
+
+// The most bytes of one read.
+const BUFFER: usize = 65536;
 
 // More reads than a machine makes: a read that is not the last brings at least one byte, or was interrupted.
 const MOST_READS: u64 = 18446744073709551615;
 
 // What is to be done next.
-#[derive(Drop)]
+#[derive(Clone, Copy)]
 enum Then {
     Read,
     // The input is over.
@@ -18,109 +28,117 @@ enum Then {
 }
 
 // The line so far, after a part of the input.
-#[derive(Drop)]
+#[derive(Clone, Copy)]
 struct Turn {
     pub line: Line,
     pub then: Then,
 }
 
-fn main() {
-    let count = os::arg_count();
-    if count < 2 {
-        from_descriptor(libc::STDIN_FILENO, b"standard input");
+fn main(rt: HostRuntime) {
+    if !has_argument(&rt, 1) {
+        let mut input = rt.stdin();
+        from_descriptor(&rt, &mut input, b"standard input");
         return;
     }
-    if 2 < count {
-        usage();
+    if has_argument(&rt, 2) {
+        usage(&rt);
         return;
     }
-    let mut path = io::buffer();
-    let length = os::arg(1, &mut path);
-    if os::errno() != 0 {
-        os::fail(b"path");
+    let mut path = [0u8; MOST_PATH];
+    let Ok(length) = rt.arg(1, &mut path) else {
+        fail(&rt, b"path", Error::from(ErrorKind::InvalidFilename));
         return;
-    }
+    };
     if octets::same(&path[..length], b"--help") {
-        usage();
+        usage(&rt);
         return;
     }
-    from_path(&path[..length]);
+    from_path(&rt, &path[..length]);
 }
 
-fn usage() {
-    io::write_all(
-        STDERR_FILENO,
-        b"usage: frame_read [FILE]\n  reads frames, one in hexadecimal to a line, from the file or from standard input, and prints what each says\n",
+// Whether there is an argument of this number. One that has no room here is there all the same.
+fn has_argument(rt: &impl Env, number: usize) -> bool {
+    !matches!(rt.arg(number, &mut []), Err(FillError::NotPresent))
+}
+
+fn usage(rt: &impl Eprint) {
+    let _ = rt.eprintln(
+        "usage: frame_read [FILE]\n  reads frames, one in hexadecimal to a line, from the file or from standard input, and prints what each says",
     );
 }
 
-fn from_path(path: &[u8]) {
-    let fd = os::open_read(path);
-    if fd < 0 {
-        os::fail(path);
-        return;
+// Says on standard error what failed, and why. Where that cannot be said there is nowhere left to say it.
+fn fail(rt: &impl Eprint, what: &[u8], why: Error) {
+    let name = str::from_utf8(what).unwrap_or("a name that is not UTF-8");
+    let _ = eprintln!(rt; "{name}: {why}");
+}
+
+fn from_path<R: Files + Print + Eprint>(rt: &R, path: &[u8]) {
+    match opened(rt, path) {
+        Ok(mut file) => from_descriptor(rt, &mut file, path),
+        Err(why) => fail(rt, path, why),
     }
-    from_descriptor(fd, path);
-    libc::close(fd);
+}
+
+// Opens a file to be read. The system's paths are UTF-8 here.
+fn opened<R: Files>(rt: &R, path: &[u8]) -> io::Result<R::File> {
+    match str::from_utf8(path) {
+        Ok(name) => fs::open(rt, name),
+        Err(_) => Err(Error::from(ErrorKind::InvalidFilename)),
+    }
 }
 
 // Reads an open file from where it stands to its end. A message about it says `name`.
-fn from_descriptor(fd: i32, name: &[u8]) {
+fn from_descriptor<I: Read>(rt: &(impl Print + Eprint), input: &mut I, name: &[u8]) {
     let mut line = frame_text::begin();
-    let mut left = MOST_READS;
-    while 0 < left {
-        let turn = read_once(fd, name, line);
+    for _ in 0..MOST_READS {
+        let turn = read_once(rt, input, name, line);
         line = turn.line;
         let then = turn.then;
         match then {
             Then::Read => {}
             Then::Finish => {
                 let text = frame_text::finish(line);
-                written(text);
+                written(rt, text);
                 return;
             }
             Then::Stop => return,
         }
-        left -= 1;
     }
 }
 
 // Reads once and hands on what came. An interrupted read is tried again.
-fn read_once(fd: i32, name: &[u8], line: Line) -> Turn {
-    let mut buf = io::large_buffer();
-    let got = libc::read(fd, &mut buf);
-    if got < 0 {
-        if os::errno() == libc::EINTR {
-            return Turn {
-                line,
-                then: Then::Read,
-            };
-        }
-        os::fail(name);
-        return Turn {
-            line,
-            then: Then::Stop,
-        };
-    }
-    if got == 0 {
-        return Turn {
+fn read_once<I: Read>(rt: &(impl Print + Eprint), input: &mut I, name: &[u8], line: Line) -> Turn {
+    let mut buf = [0u8; BUFFER];
+    match input.read(&mut buf) {
+        Ok(0) => Turn {
             line,
             then: Then::Finish,
-        };
+        },
+        Ok(n) => handed(rt, line, &buf[..n]),
+        Err(why) if why.kind() == ErrorKind::Interrupted => Turn {
+            line,
+            then: Then::Read,
+        },
+        Err(why) => {
+            fail(rt, name, why);
+            Turn {
+                line,
+                then: Then::Stop,
+            }
+        }
     }
-    let n = io::count(got, &buf);
-    handed(line, &buf[..n])
 }
 
 // Hands a piece on, byte after byte, and writes what each prints.
-fn handed(start: Line, piece: &[u8]) -> Turn {
+fn handed(rt: &(impl Print + Eprint), start: Line, piece: &[u8]) -> Turn {
     let mut line = start;
     let mut at = 0;
     while at < piece.len() {
         let taken = frame_text::take(line, piece[at]);
         line = taken.line;
         let text = taken.text;
-        if !written(text) {
+        if !written(rt, text) {
             return Turn {
                 line,
                 then: Then::Stop,
@@ -135,7 +153,7 @@ fn handed(start: Line, piece: &[u8]) -> Turn {
 }
 
 // Writes a text; by its promise its bytes are there. Says so where it cannot.
-fn written(text: Text) -> bool {
+fn written(rt: &(impl Print + Eprint), text: Text) -> bool {
     let count = text.count;
     let bytes = text.bytes;
     if count == 0 {
@@ -144,9 +162,11 @@ fn written(text: Text) -> bool {
     if 96 < count {
         return false;
     }
-    let whole = io::write_all(STDOUT_FILENO, &bytes[..count]);
-    if !whole {
-        os::fail(b"write");
+    match rt.write_all(&bytes[..count]) {
+        Ok(()) => true,
+        Err(why) => {
+            fail(rt, b"write", why);
+            false
+        }
     }
-    whole
 }

@@ -1,76 +1,89 @@
 // The public calls, by the names that a session file has for them.
 use crate::table::{MOST, byte, bytes, number, value};
+use std::io;
 
 // No call of this name: a number that no call gives.
 const UNKNOWN: u64 = 0xffff;
 
 // Runs the call of a row on its record, and gives the number that the call gives.
-pub fn run(row: &[u8]) -> u64 {
+pub fn run(rt: &impl Print, row: &[u8]) -> io::Result<u64> {
     let mut record = [0u8; MOST];
-    let count = bytes(row, b"record=", &mut record);
+    let count = bytes(rt, row, b"record=", &mut record)?;
     let mut answer = [0u8; MOST];
-    let room = io::count(number(row, b"room=") as isize, &answer);
+    let room = number(rt, row, b"room=")? as usize;
+    let lent = room.min(MOST);
     named(
+        rt,
         value(row, b"call="),
         row,
         &mut record[..count],
-        &mut answer[..room],
+        &mut answer[..lent],
     )
 }
 
 // A call that gives answer bytes; any other has no use for them.
-fn named(name: &[u8], row: &[u8], record: &mut [u8], answer: &mut [u8]) -> u64 {
+fn named(
+    rt: &impl Print,
+    name: &[u8],
+    row: &[u8],
+    record: &mut [u8],
+    answer: &mut [u8],
+) -> io::Result<u64> {
     if octets::same(name, b"read") {
-        return read(row, record, answer);
+        return read(rt, row, record, answer);
     }
     if octets::same(name, b"write") {
-        return write(row, record, answer);
+        return write(rt, row, record, answer);
     }
     if octets::same(name, b"button") {
-        return firmware::tag_button(record, answer);
+        return Ok(firmware::tag_button(record, answer));
     }
     if octets::same(name, b"elapsed") {
-        return firmware::tag_elapsed(record, number(row, b"tenths="), answer);
+        let tenths = number(rt, row, b"tenths=")?;
+        return Ok(firmware::tag_elapsed(record, tenths, answer));
     }
     if octets::same(name, b"frame") {
-        return firmware::tag_frame(record, answer);
+        return Ok(firmware::tag_frame(record, answer));
     }
-    unanswered(name, row, record)
+    unanswered(rt, name, row, record)
 }
 
-fn unanswered(name: &[u8], row: &[u8], record: &mut [u8]) -> u64 {
+fn unanswered(rt: &impl Print, name: &[u8], row: &[u8], record: &mut [u8]) -> io::Result<u64> {
     if octets::same(name, b"pairing") {
-        return firmware::tag_pairing(record, number(row, b"on="));
+        let on = number(rt, row, b"on=")?;
+        return Ok(firmware::tag_pairing(record, on));
     }
     if octets::same(name, b"battery") {
-        return firmware::tag_battery(record, number(row, b"level="));
+        let level = number(rt, row, b"level=")?;
+        return Ok(firmware::tag_battery(record, level));
     }
     if octets::same(name, b"key") {
-        return account_key(row, record);
+        return account_key(rt, row, record);
     }
     if octets::same(name, b"disconnect") {
-        return firmware::tag_disconnect(record);
+        return Ok(firmware::tag_disconnect(record));
     }
     if octets::same(name, b"sleep") {
-        return firmware::tag_sleep(record);
+        return Ok(firmware::tag_sleep(record));
     }
-    UNKNOWN
+    Ok(UNKNOWN)
 }
 
-fn read(row: &[u8], record: &mut [u8], answer: &mut [u8]) -> u64 {
+fn read(rt: &impl Print, row: &[u8], record: &mut [u8], answer: &mut [u8]) -> io::Result<u64> {
     let mut nonce = [0u8; MOST];
-    let count = bytes(row, b"nonce=", &mut nonce);
-    firmware::tag_read(record, &nonce[..count], answer)
+    let count = bytes(rt, row, b"nonce=", &mut nonce)?;
+    Ok(firmware::tag_read(record, &nonce[..count], answer))
 }
 
-fn write(row: &[u8], record: &mut [u8], answer: &mut [u8]) -> u64 {
+fn write(rt: &impl Print, row: &[u8], record: &mut [u8], answer: &mut [u8]) -> io::Result<u64> {
     let mut request = [0u8; MOST];
-    let count = bytes(row, b"data=", &mut request);
-    firmware::tag_write(record, &request[..count], byte(row, b"reach="), answer)
+    let count = bytes(rt, row, b"data=", &mut request)?;
+    let reach = byte(rt, row, b"reach=")?;
+    Ok(firmware::tag_write(record, &request[..count], reach, answer))
 }
 
-fn account_key(row: &[u8], record: &mut [u8]) -> u64 {
+fn account_key(rt: &impl Print, row: &[u8], record: &mut [u8]) -> io::Result<u64> {
     let mut key = [0u8; MOST];
-    let count = bytes(row, b"bytes=", &mut key);
-    firmware::tag_account_key(record, &key[..count])
+    let count = bytes(rt, row, b"bytes=", &mut key)?;
+    Ok(firmware::tag_account_key(record, &key[..count]))
 }

@@ -1,12 +1,21 @@
+#![tactic(auto)]
 // Runs the table that its argument names, a call over a record of bytes to a row, and prints a line for each: the row's name, its call, its
 // room, and `ok` or the refusal in two hexadecimal digits. compare/reference makes the table, data/records.txt, and the lines in stdout; none of
 // them comes from this program.
-ghost use Rattle.std.specs.Prelude.{◌≤◌, length};
+ghost use Rattle.std.specs.Prelude.{◌≤◌, length, IfOk};
 
 mod calls;
 mod table;
 
-use libc::STDOUT_FILENO;
+use std::env::FillError;
+use std::fs::File;
+use std::io::{Error, ErrorKind};
+use std::os::unix::fs::FileExt;
+use std::rt::Env;
+use std::{fs, io};
+
+// The longest path.
+const MOST_PATH: usize = 4096;
 
 // The longest table.
 const MOST_BYTES: usize = 16777216;
@@ -16,71 +25,83 @@ const REFUSAL_BASE: u64 = 256;
 
 const ENDED_BASE: u64 = 65536;
 
-fn main() {
-    let mut path = io::buffer();
-    let length = os::arg(1, &mut path);
-    let fd = os::open_read(&path[..length]);
-    if fd < 0 {
-        os::fail(&path[..length]);
-        return;
+fn main(rt: HostRuntime) -> io::Result<()> {
+    let mut path = [0u8; MOST_PATH];
+    let length = argument(&rt, &mut path)?;
+    match str::from_utf8(&path[..length]) {
+        Ok(name) => {
+            let table = fs::open(&rt, name)?;
+            rows(&rt, &table)
+        }
+        Err(_) => Err(Error::from(ErrorKind::InvalidFilename)),
     }
-    rows(fd);
-    libc::close(fd);
+}
+
+// The first argument, at the start of the buffer, and how long it is.
+fn argument(rt: &impl Env, path: &mut [u8; MOST_PATH]) -> io::Result<usize>
+    ensures { IfOk result (λ n. n ≤ length path.new) }
+{
+    match rt.arg(1, path) {
+        Ok(length) => Ok(length),
+        Err(FillError::NotPresent) => Err(Error::from(ErrorKind::InvalidInput)),
+        Err(FillError::TooLong) => Err(Error::from(ErrorKind::InvalidFilename)),
+    }
 }
 
 // Runs each row of the table.
-fn rows(fd: i32) {
+fn rows(rt: &impl Print, table: &File) -> io::Result<()> {
     let mut at = 0;
     while at < MOST_BYTES {
-        let size = row_at(fd, at);
+        let size = row_at(rt, table, at)?;
         if size == 0 {
-            return;
+            break;
         }
         at += size + 1;
     }
+    Ok(())
 }
 
 // Runs the row that begins at a place of the table, and gives its bytes without the last newline; 0 where there is none.
-fn row_at(fd: i32, at: usize) -> usize
+fn row_at(rt: &impl Print, table: &File, at: usize) -> io::Result<usize>
     requires { at ≤ 16777216 }
-    ensures { result ≤ 4096 }
+    ensures { IfOk result (λ size. size ≤ 4096) }
 {
-    let mut text = io::buffer();
-    let count = io::count(libc::pread(fd, &mut text, at as i64), &text);
-    first_row(&text[..count])
+    let mut text = [0u8; 4096];
+    let count = table.read_at(&mut text, at as u64)?;
+    first_row(rt, &text[..count])
 }
 
 // The same of the row that a text begins with. A row ends with its line of the room.
-fn first_row(text: &[u8]) -> usize
-    ensures { result ≤ length text.now }
+fn first_row(rt: &impl Print, text: &[u8]) -> io::Result<usize>
+    ensures { IfOk result (λ size. size ≤ length text.now) }
 {
     let last = table::find(text, b"room=");
     let size = last.end;
     if 0 < size {
-        run(&text[..size]);
+        run(rt, &text[..size])?;
     }
-    size
+    Ok(size)
 }
 
-fn run(row: &[u8]) {
-    field(row, b"name=");
-    field(row, b"call=");
-    field(row, b"room=");
-    ending(calls::run(row) % ENDED_BASE);
+fn run(rt: &impl Print, row: &[u8]) -> io::Result<()> {
+    field(rt, row, b"name=")?;
+    field(rt, row, b"call=")?;
+    field(rt, row, b"room=")?;
+    let code = calls::run(rt, row)?;
+    ending(rt, code % ENDED_BASE)
 }
 
 // Prints a value of the row, and a space.
-fn field(row: &[u8], key: &[u8]) {
-    io::write_all(STDOUT_FILENO, table::value(row, key));
-    io::write_all(STDOUT_FILENO, b" ");
+fn field(rt: &impl Print, row: &[u8], key: &[u8]) -> io::Result<()> {
+    rt.write_all(table::value(row, key))?;
+    rt.write_all(b" ")
 }
 
 // Prints how a call ended, and a newline.
-fn ending(code: u64) {
+fn ending(rt: &impl Print, code: u64) -> io::Result<()> {
     if code < REFUSAL_BASE {
-        io::write_all(STDOUT_FILENO, b"ok\n");
-        return;
+        return rt.write_all(b"ok\n");
     }
-    io::print_hex(STDOUT_FILENO, code - REFUSAL_BASE, 2);
-    io::write_all(STDOUT_FILENO, b"\n");
+    let refusal = code - REFUSAL_BASE;
+    println!(rt; "{refusal:02x}")
 }

@@ -1,11 +1,10 @@
 // The lines of a row, `key=value` each, written as in a session file. A value that cannot be read prints `malformed`, so that the row's line is not the
 // expected one.
-ghost use Rattle.std.specs.Prelude.{◌≤◌, length};
-ghost use Rattle.io.specs.Counts.{IsPrefixLen};
+ghost use Rattle.std.specs.Prelude.{◌≤◌, length, IfOk};
 
 use hex_reading::{Octets, one_byte, unhex};
-use libc::STDOUT_FILENO;
 use reading::{Numeral, unsigned};
+use std::io;
 
 // The most bytes of a record or an argument.
 pub const MOST: usize = 512;
@@ -23,7 +22,7 @@ pub fn end_of(text: &[u8], at: usize) -> usize
 }
 
 // Where a value stands.
-#[derive(Drop)]
+#[derive(Clone, Copy)]
 pub struct Place {
     pub start: usize,
     pub end: usize,
@@ -31,7 +30,7 @@ pub struct Place {
 
 // Where the value of the first line with a key stands; at 0 and empty where no line has the key.
 pub fn find(text: &[u8], key: &[u8]) -> Place
-    ensures { (result.start ≤ result.end) × IsPrefixLen result.end text.now }
+    ensures { (result.start ≤ result.end) × (result.end ≤ length text.now) }
 {
     let mut at = 0;
     while at < text.len() {
@@ -56,33 +55,33 @@ pub fn value<'a>(row: &'a [u8], key: &[u8]) -> &'a [u8] {
 }
 
 // A value in hexadecimal: its bytes, and how many there are.
-pub fn bytes(row: &[u8], key: &[u8], into: &mut [u8; MOST]) -> usize
-    ensures { IsPrefixLen result into.new }
+pub fn bytes(rt: &impl Print, row: &[u8], key: &[u8], into: &mut [u8; MOST]) -> io::Result<usize>
+    ensures { IfOk result (λ n. n ≤ length into.new) }
 {
     let text = value(row, key);
     if text.len() <= 2 * MOST {
         if let Octets::Count(n) = unhex(text, into) {
-            return n;
+            return Ok(n);
         }
     }
-    io::write_all(STDOUT_FILENO, b"malformed ");
-    0
+    rt.write_all(b"malformed ")?;
+    Ok(0)
 }
 
 // A value of one byte in hexadecimal.
-pub fn byte(row: &[u8], key: &[u8]) -> u32 {
+pub fn byte(rt: &impl Print, row: &[u8], key: &[u8]) -> io::Result<u32> {
     if let Numeral::Value(n) = one_byte(value(row, key)) {
-        return n;
+        return Ok(n);
     }
-    io::write_all(STDOUT_FILENO, b"malformed ");
-    0
+    rt.write_all(b"malformed ")?;
+    Ok(0)
 }
 
 // A value in decimal.
-pub fn number(row: &[u8], key: &[u8]) -> u32 {
+pub fn number(rt: &impl Print, row: &[u8], key: &[u8]) -> io::Result<u32> {
     if let Numeral::Value(n) = unsigned(value(row, key)) {
-        return n;
+        return Ok(n);
     }
-    io::write_all(STDOUT_FILENO, b"malformed ");
-    0
+    rt.write_all(b"malformed ")?;
+    Ok(0)
 }

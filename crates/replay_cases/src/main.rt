@@ -1,58 +1,86 @@
+#![tactic(auto)]
 // Replays the files that its arguments name, and prints the name of each and what the replay prints: sessions with keys, and inputs at the
 // edges of the format. Then come the inputs that reach line 1,000,000, too long to store. compare/sessions/make.py makes args, data/ and the
 // answers in stdout; none of them comes from this program.
-use libc::STDOUT_FILENO;
 use session::Session;
+use std::env::FillError;
+use std::io;
+use std::io::{Error, ErrorKind};
+use std::rt::{Env, Files};
+
+// The longest path.
+const MOST_PATH: usize = 4096;
+
+// More arguments than a program can be given.
+const MOST_ARGUMENTS: usize = 4294967295;
 
 // The lines of a long input before its last ones: three settings, and presses up to line 999,998.
 const PRESSES: u32 = 999995;
 
-fn main() {
-    let count = os::arg_count();
-    let mut i = 1;
-    while i < count {
-        case(i);
-        i += 1;
+fn main(rt: HostRuntime) -> io::Result<()> {
+    for i in 1..MOST_ARGUMENTS {
+        if !case(&rt, i)? {
+            break;
+        }
     }
-    long_cases();
+    long_cases(&rt)
 }
 
-fn case(i: usize) {
-    let mut path = io::buffer();
-    let length = os::arg(i, &mut path);
-    io::write_all(STDOUT_FILENO, &path[..length]);
-    io::write_all(STDOUT_FILENO, b"\n");
-    replay_file::from_path(&path[..length]);
+// Replays the file that an argument names. Says whether there is such an argument.
+fn case<R: Env + Files + Print + Eprint>(rt: &R, i: usize) -> io::Result<bool> {
+    let mut path = [0u8; MOST_PATH];
+    match rt.arg(i, &mut path) {
+        Ok(length) => {
+            rt.write_all(&path[..length])?;
+            rt.write_all(b"\n")?;
+            replay_file::from_path(rt, &path[..length]);
+            Ok(true)
+        }
+        Err(FillError::NotPresent) => Ok(false),
+        Err(FillError::TooLong) => {
+            replay_file::fail(rt, b"path", Error::from(ErrorKind::InvalidFilename));
+            Ok(true)
+        }
+    }
 }
 
 // Inputs that differ from line 999,999 on.
-fn long_cases() {
+fn long_cases(rt: &(impl Print + Eprint)) -> io::Result<()> {
     let near = pressed();
-    long_case(near, b"lines-999999\n", b"event=button\n");
-    long_case(near, b"line-1000000\n", b"event=button\nevent=button\n");
+    long_case(rt, near, b"lines-999999\n", b"event=button\n")?;
+    long_case(rt, near, b"line-1000000\n", b"event=button\nevent=button\n")?;
     long_case(
+        rt,
         near,
         b"line-1000000-not-closed\n",
         b"event=button\nevent=button",
-    );
+    )?;
     long_case(
+        rt,
         near,
         b"line-1000000-blank\n",
         b"event=button\n\nevent=read\nnonce=0102030405060708\n",
-    );
+    )?;
     long_case(
+        rt,
         near,
         b"line-1000000-inside-an-event\n",
         b"event=read\nnonce=0102030405060708\n",
-    );
-    long_case(near, b"line-1000000-missing\n", b"event=read\n");
+    )?;
+    long_case(rt, near, b"line-1000000-missing\n", b"event=read\n")
 }
 
-fn long_case(near: Session, name: &[u8], last: &[u8]) {
-    io::write_all(STDOUT_FILENO, name);
-    let turn = replay_file::fed(near, last);
+fn long_case(
+    rt: &(impl Print + Eprint),
+    near: Session,
+    name: &[u8],
+    last: &[u8],
+) -> io::Result<()> {
+    rt.write_all(name)?;
+    let turn = replay_file::fed(rt, near, last);
     let session = turn.session;
-    replay_file::finish(session);
+    replay_file::finish(rt, session);
+    Ok(())
 }
 
 // The session before line 999,999. What the lines before it print is thrown away.

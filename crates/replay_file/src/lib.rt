@@ -1,14 +1,20 @@
+#![tactic(auto)]
 // Replays a file to standard output: reads, feeds, writes. What is printed is promised by the libraries `replay` and `session_ends`; no contract
 // can speak of bytes that the system reads or writes. Where the system fails, standard error says so, the answers so far stand, and nothing more is
 // printed: a file that could not be read to its end is not called malformed.
-use libc::STDOUT_FILENO;
 use session::{Finished, Session};
+use std::io::{Error, ErrorKind, Read};
+use std::rt::Files;
+use std::{fs, io};
 
 // The bytes that the format can hold: 1,000,000 lines of 256 bytes and their newlines. A read that is not the last brings at least one.
 const MOST_BYTES: u32 = 257000000;
 
+// The most bytes of one read, and of one write.
+const BUFFER: usize = 65536;
+
 // What is to be done next.
-#[derive(Drop)]
+#[derive(Clone, Copy)]
 pub enum Then {
     Read,
     // The file is over.
@@ -18,81 +24,91 @@ pub enum Then {
 }
 
 // A session after a part of a file.
-#[derive(Drop)]
+#[derive(Clone, Copy)]
 pub struct Turn {
     pub session: Session,
     pub then: Then,
 }
 
 // Replays the file that a path names.
-pub fn from_path(path: &[u8]) {
-    let fd = os::open_read(path);
-    if fd < 0 {
-        os::fail(path);
-        return;
+pub fn from_path<R: Files + Print + Eprint>(rt: &R, path: &[u8]) {
+    match opened(rt, path) {
+        Ok(mut file) => from_descriptor(rt, &mut file, path),
+        Err(why) => fail(rt, path, why),
     }
-    from_descriptor(fd, path);
-    libc::close(fd);
+}
+
+// Opens a file to be read. The system's paths are UTF-8 here.
+fn opened<R: Files>(rt: &R, path: &[u8]) -> io::Result<R::File> {
+    match str::from_utf8(path) {
+        Ok(name) => fs::open(rt, name),
+        Err(_) => Err(Error::from(ErrorKind::InvalidFilename)),
+    }
+}
+
+// Says on standard error what failed, and why. Where that cannot be said there is nowhere left to say it.
+pub fn fail(rt: &impl Eprint, what: &[u8], why: Error) {
+    let name = str::from_utf8(what).unwrap_or("a name that is not UTF-8");
+    let _ = eprintln!(rt; "{name}: {why}");
 }
 
 // Replays an open file, from where it stands to its end, or until the run has ended. A message about it says `name`.
-pub fn from_descriptor(fd: i32, name: &[u8]) {
+pub fn from_descriptor<I: Read>(rt: &(impl Print + Eprint), input: &mut I, name: &[u8]) {
     let mut session = session_ends::begin();
-    let mut left = MOST_BYTES;
-    while 0 < left {
-        let turn = read_once(fd, name, session);
+    for _ in 0..MOST_BYTES {
+        let turn = read_once(rt, input, name, session);
         session = turn.session;
         let then = turn.then;
         match then {
             Then::Read => {}
             Then::Finish => {
-                finish(session);
+                finish(rt, session);
                 return;
             }
             Then::Stop => return,
         }
-        left -= 1;
     }
 }
 
 // Reads once and feeds what came. An interrupted read is tried again.
-fn read_once(fd: i32, name: &[u8], session: Session) -> Turn {
-    let mut buf = io::large_buffer();
-    let got = libc::read(fd, &mut buf);
-    if got < 0 {
-        if os::errno() == libc::EINTR {
-            return Turn {
-                session,
-                then: Then::Read,
-            };
-        }
-        os::fail(name);
-        return stopped(session);
-    }
-    if got == 0 {
-        return Turn {
+fn read_once<I: Read>(
+    rt: &(impl Print + Eprint),
+    input: &mut I,
+    name: &[u8],
+    session: Session,
+) -> Turn {
+    let mut buf = [0u8; BUFFER];
+    match input.read(&mut buf) {
+        Ok(0) => Turn {
             session,
             then: Then::Finish,
-        };
+        },
+        Ok(n) => fed(rt, session, &buf[..n]),
+        Err(why) if why.kind() == ErrorKind::Interrupted => Turn {
+            session,
+            then: Then::Read,
+        },
+        Err(why) => {
+            fail(rt, name, why);
+            stopped(session)
+        }
     }
-    let n = io::count(got, &buf);
-    fed(session, &buf[..n])
 }
 
 // A session after some bytes of a piece: none where the run has ended or the system failed.
-#[derive(Drop)]
+#[derive(Clone, Copy)]
 struct Portion {
     session: Session,
     taken: usize,
 }
 
 // Feeds bytes, as many as a buffer's output allows, and writes what they print.
-fn fed_once(s: Session, bytes: &[u8]) -> Portion {
-    let mut out = io::large_buffer();
+fn fed_once(rt: &(impl Print + Eprint), s: Session, bytes: &[u8]) -> Portion {
+    let mut out = [0u8; BUFFER];
     let next = replay::feed(s, bytes, &mut out);
     let session = next.session;
     let run = session.run;
-    if !written(&out, next.written) || run.ended {
+    if !written(rt, &out, next.written) || run.ended {
         return Portion { session, taken: 0 };
     }
     Portion {
@@ -102,11 +118,11 @@ fn fed_once(s: Session, bytes: &[u8]) -> Portion {
 }
 
 // Feeds a piece and writes what it prints, a part of the output at a time.
-pub fn fed(s: Session, piece: &[u8]) -> Turn {
+pub fn fed(rt: &(impl Print + Eprint), s: Session, piece: &[u8]) -> Turn {
     let mut session = s;
     let mut at = 0;
     while at < piece.len() {
-        let portion = fed_once(session, &piece[at..]);
+        let portion = fed_once(rt, session, &piece[at..]);
         session = portion.session;
         let taken = portion.taken;
         if taken == 0 {
@@ -131,22 +147,24 @@ fn stopped(session: Session) -> Turn {
 }
 
 // Writes what the end of the file prints.
-pub fn finish(s: Session) {
+pub fn finish(rt: &(impl Print + Eprint), s: Session) {
     let mut out = [0u8; 64];
     let end = session_ends::finish(s, &mut out);
     if let Finished::Wrote(n) = end {
-        written(&out, n);
+        written(rt, &out, n);
     }
 }
 
 // Writes the first bytes of a buffer; by the promise of the replay there are as many. Says so where it cannot.
-fn written(out: &[u8], count: usize) -> bool {
+fn written(rt: &(impl Print + Eprint), out: &[u8], count: usize) -> bool {
     if out.len() < count {
         return false;
     }
-    let whole = io::write_all(STDOUT_FILENO, &out[..count]);
-    if !whole {
-        os::fail(b"write");
+    match rt.write_all(&out[..count]) {
+        Ok(()) => true,
+        Err(why) => {
+            fail(rt, b"write", why);
+            false
+        }
     }
-    whole
 }

@@ -1,8 +1,9 @@
 // AES by NIST's validation system (AESAVS): the Monte Carlo tests of ECB, whole, for AES-128 both ways and for AES-256 encryption. A test chains 1,000 blocks,
 // each the cipher of the one before it, prints the last, changes the key by it and goes on from it, 100 times.
 use crate::print;
+use std::io;
 
-#[derive(Drop)]
+#[derive(Clone, Copy)]
 enum Way {
     Encrypt,
     Decrypt,
@@ -44,27 +45,28 @@ fn changed(key: [u8; 16], block: [u8; 16]) -> [u8; 16] {
     next
 }
 
-fn checkpoint(block: [u8; 16]) {
-    print::hex(&block);
-    print::text(b"\n");
+fn checkpoint(rt: &impl Print, block: [u8; 16]) -> io::Result<()> {
+    print::hex(rt, &block)?;
+    print::text(rt, b"\n")
 }
 
-fn test(way: Way, first_key: [u8; 16], start: [u8; 16]) {
+fn test(rt: &impl Print, way: Way, first_key: [u8; 16], start: [u8; 16]) -> io::Result<()> {
     let mut key = first_key;
     let mut block = start;
     let mut left: u32 = 100;
     while 0 < left {
         let last = chained(way, key, block);
-        checkpoint(last);
+        checkpoint(rt, last)?;
         let next = changed(key, last);
         key = next;
         block = last;
         left -= 1;
     }
+    Ok(())
 }
 
 // The two last blocks of a chain under a key of 256 bits.
-#[derive(Drop)]
+#[derive(Clone, Copy)]
 struct Last {
     before: [u8; 16],
     block: [u8; 16],
@@ -101,7 +103,7 @@ fn changed256(key: [u8; 32], before: [u8; 16], block: [u8; 16]) -> [u8; 32] {
     next
 }
 
-fn test256(first_key: [u8; 32], start: [u8; 16]) {
+fn test256(rt: &impl Print, first_key: [u8; 32], start: [u8; 16]) -> io::Result<()> {
     let mut key = first_key;
     let mut block = start;
     let mut left: u32 = 100;
@@ -109,30 +111,37 @@ fn test256(first_key: [u8; 32], start: [u8; 16]) {
         let last = chained256(key, block);
         let end = last.block;
         let before = last.before;
-        checkpoint(end);
+        checkpoint(rt, end)?;
         let next = changed256(key, before, end);
         key = next;
         block = end;
         left -= 1;
     }
+    Ok(())
 }
 
-pub fn run() {
-    print::text(b"NIST, AESAVS, Monte Carlo test of AES-128 encryption: each of 100 checkpoints\n");
+pub fn run(rt: &impl Print) -> io::Result<()> {
+    print::text(
+        rt,
+        b"NIST, AESAVS, Monte Carlo test of AES-128 encryption: each of 100 checkpoints\n",
+    )?;
     test(
+        rt,
         Way::Encrypt,
         *b"\x13\x9a\x35\x42\x2f\x1d\x61\xde\x3c\x91\x78\x7f\xe0\x50\x7a\xfd",
         *b"\xb9\x14\x5a\x76\x8b\x7d\xc4\x89\xa0\x96\xb5\x46\xf4\x3b\x23\x1f",
-    );
-    print::text(b"The same of decryption\n");
+    )?;
+    print::text(rt, b"The same of decryption\n")?;
     test(
+        rt,
         Way::Decrypt,
         *b"\x0c\x60\xe7\xbf\x20\xad\xa9\xba\xa9\xe1\xdd\xf0\xd1\x54\x07\x26",
         *b"\xb0\x8a\x29\xb1\x1a\x50\x0e\xa3\xac\xa4\x2c\x36\x67\x5b\x97\x85",
-    );
-    print::text(b"The same of AES-256 encryption\n");
+    )?;
+    print::text(rt, b"The same of AES-256 encryption\n")?;
     test256(
+        rt,
         *b"\xf9\xe8\x38\x9f\x5b\x80\x71\x2e\x38\x86\xcc\x1f\xa2\xd2\x8a\x3b\x8c\x9c\xd8\x8a\x2d\x4a\x54\xc6\xaa\x86\xce\x0f\xef\x94\x4b\xe0",
         *b"\xb3\x79\x77\x7f\x90\x50\xe2\xa8\x18\xf2\x94\x0c\xbb\xd9\xab\xa4",
-    );
+    )
 }

@@ -3,11 +3,12 @@
 // has the answers from hashlib, hmac and OpenSSL.
 use crate::print;
 use lent_answer::Ending;
+use std::io;
 
 // What an exported call gives for a refusal, beside its number.
 const REFUSED: u64 = 256;
 
-#[derive(Drop)]
+#[derive(Clone, Copy)]
 enum Call {
     Hash,
     Authenticate,
@@ -37,25 +38,25 @@ fn called(call: Call, key: &[u8], message: &[u8], answer: &mut [u8]) -> u64 {
     }
 }
 
-fn name(call: Call) {
+fn name(rt: &impl Print, call: Call) -> io::Result<()> {
     match call {
-        Call::Hash => print::text(b"sha256 "),
-        Call::Authenticate => print::text(b"hmac "),
-        Call::Encrypt => print::text(b"encrypt "),
-        Call::Decrypt => print::text(b"decrypt "),
-        Call::EncryptLong => print::text(b"encrypt256 "),
+        Call::Hash => print::text(rt, b"sha256 "),
+        Call::Authenticate => print::text(rt, b"hmac "),
+        Call::Encrypt => print::text(rt, b"encrypt "),
+        Call::Decrypt => print::text(rt, b"decrypt "),
+        Call::EncryptLong => print::text(rt, b"encrypt256 "),
     }
 }
 
 // Prints how an exported call ended, and its answer.
-fn ending(code: u64, answer: &[u8]) {
+fn ending(rt: &impl Print, code: u64, answer: &[u8]) -> io::Result<()> {
     if code < REFUSED {
-        print::text(b"ok ");
+        print::text(rt, b"ok ")?;
     } else {
-        print::refusal(code - REFUSED);
+        print::refusal(rt, code - REFUSED)?;
     }
-    print::hex(answer);
-    print::text(b"\n");
+    print::hex(rt, answer)?;
+    print::text(rt, b"\n")
 }
 
 // The same of the call over parts, which is not exported: its end as a number.
@@ -67,34 +68,54 @@ fn code_of(end: Ending) -> u64 {
 }
 
 // Prints a row.
-fn row(bytes: &[u8], call: Call, key: u32, message: u32, room: u32) {
-    name(call);
-    print::number(key);
-    print::number(message);
-    print::number(room);
+fn row(
+    rt: &impl Print,
+    bytes: &[u8],
+    call: Call,
+    key: u32,
+    message: u32,
+    room: u32,
+) -> io::Result<()> {
+    name(rt, call)?;
+    print::number(rt, key)?;
+    print::number(rt, message)?;
+    print::number(rt, room)?;
     let mut answer = [0xeeu8; 64];
-    let k = io::count(key as isize, bytes);
-    let m = io::count(message as isize, bytes);
-    let lent = io::count(room as isize, &answer);
-    whole(call, &bytes[..k], &bytes[..m], &mut answer[..lent]);
+    let k = (key as usize).min(bytes.len());
+    let m = (message as usize).min(bytes.len());
+    let lent = (room as usize).min(answer.len());
+    whole(rt, call, &bytes[..k], &bytes[..m], &mut answer[..lent])
 }
 
-fn whole(call: Call, key: &[u8], message: &[u8], answer: &mut [u8]) {
+fn whole(
+    rt: &impl Print,
+    call: Call,
+    key: &[u8],
+    message: &[u8],
+    answer: &mut [u8],
+) -> io::Result<()> {
     let end = called(call, key, message, answer);
-    ending(end, answer);
+    ending(rt, end, answer)
 }
 
 // Prints a row of HMAC of a message in three parts: the bytes of the key and of each part stand before its end.
-fn parts(bytes: &[u8], key: u32, head: u32, tail: u32, last: u32) {
-    print::text(b"hmac-parts ");
-    print::number(key);
-    print::number(head);
-    print::number(tail);
-    print::number(last);
-    let k = io::count(key as isize, bytes);
-    let h = io::count(head as isize, bytes);
-    let t = io::count(tail as isize, bytes);
-    let l = io::count(last as isize, bytes);
+fn parts(
+    rt: &impl Print,
+    bytes: &[u8],
+    key: u32,
+    head: u32,
+    tail: u32,
+    last: u32,
+) -> io::Result<()> {
+    print::text(rt, b"hmac-parts ")?;
+    print::number(rt, key)?;
+    print::number(rt, head)?;
+    print::number(rt, tail)?;
+    print::number(rt, last)?;
+    let k = (key as usize).min(bytes.len());
+    let h = (head as usize).min(bytes.len());
+    let t = (tail as usize).min(bytes.len());
+    let l = (last as usize).min(bytes.len());
     let mut answer = [0xeeu8; 32];
     let end = hash_calls::hmac_sha256_parts(
         &bytes[..k],
@@ -103,93 +124,97 @@ fn parts(bytes: &[u8], key: u32, head: u32, tail: u32, last: u32) {
         &bytes[..l],
         &mut answer,
     );
-    ending(code_of(end), &answer);
+    ending(rt, code_of(end), &answer)
 }
 
-fn hashes(bytes: &[u8]) {
-    row(bytes, Call::Hash, 0, 0, 32);
-    row(bytes, Call::Hash, 0, 65535, 32);
-    row(bytes, Call::Hash, 0, 65536, 32);
-    row(bytes, Call::Hash, 0, 3, 0);
-    row(bytes, Call::Hash, 0, 3, 31);
-    row(bytes, Call::Hash, 0, 3, 32);
-    row(bytes, Call::Hash, 0, 3, 33);
+fn hashes(rt: &impl Print, bytes: &[u8]) -> io::Result<()> {
+    row(rt, bytes, Call::Hash, 0, 0, 32)?;
+    row(rt, bytes, Call::Hash, 0, 65535, 32)?;
+    row(rt, bytes, Call::Hash, 0, 65536, 32)?;
+    row(rt, bytes, Call::Hash, 0, 3, 0)?;
+    row(rt, bytes, Call::Hash, 0, 3, 31)?;
+    row(rt, bytes, Call::Hash, 0, 3, 32)?;
+    row(rt, bytes, Call::Hash, 0, 3, 33)
 }
 
-fn tags(bytes: &[u8]) {
-    row(bytes, Call::Authenticate, 0, 0, 32);
-    row(bytes, Call::Authenticate, 63, 3, 32);
-    row(bytes, Call::Authenticate, 64, 3, 32);
-    row(bytes, Call::Authenticate, 65, 3, 32);
-    row(bytes, Call::Authenticate, 65535, 3, 32);
-    row(bytes, Call::Authenticate, 65536, 3, 32);
-    row(bytes, Call::Authenticate, 3, 65535, 32);
-    row(bytes, Call::Authenticate, 3, 65536, 32);
-    row(bytes, Call::Authenticate, 3, 3, 0);
-    row(bytes, Call::Authenticate, 3, 3, 31);
-    row(bytes, Call::Authenticate, 3, 3, 32);
-    row(bytes, Call::Authenticate, 3, 3, 33);
+fn tags(rt: &impl Print, bytes: &[u8]) -> io::Result<()> {
+    row(rt, bytes, Call::Authenticate, 0, 0, 32)?;
+    row(rt, bytes, Call::Authenticate, 63, 3, 32)?;
+    row(rt, bytes, Call::Authenticate, 64, 3, 32)?;
+    row(rt, bytes, Call::Authenticate, 65, 3, 32)?;
+    row(rt, bytes, Call::Authenticate, 65535, 3, 32)?;
+    row(rt, bytes, Call::Authenticate, 65536, 3, 32)?;
+    row(rt, bytes, Call::Authenticate, 3, 65535, 32)?;
+    row(rt, bytes, Call::Authenticate, 3, 65536, 32)?;
+    row(rt, bytes, Call::Authenticate, 3, 3, 0)?;
+    row(rt, bytes, Call::Authenticate, 3, 3, 31)?;
+    row(rt, bytes, Call::Authenticate, 3, 3, 32)?;
+    row(rt, bytes, Call::Authenticate, 3, 3, 33)
 }
 
-fn tags_of_parts(bytes: &[u8]) {
-    parts(bytes, 64, 10, 20, 30);
-    parts(bytes, 64, 0, 65535, 0);
-    parts(bytes, 64, 0, 65536, 0);
-    parts(bytes, 64, 0, 0, 65535);
-    parts(bytes, 64, 0, 0, 65536);
-    parts(bytes, 64, 65536, 0, 0);
-    parts(bytes, 64, 32767, 1, 32767);
-    parts(bytes, 64, 32767, 2, 32767);
-    parts(bytes, 65535, 65533, 1, 1);
-    parts(bytes, 65536, 65533, 1, 1);
+fn tags_of_parts(rt: &impl Print, bytes: &[u8]) -> io::Result<()> {
+    parts(rt, bytes, 64, 10, 20, 30)?;
+    parts(rt, bytes, 64, 0, 65535, 0)?;
+    parts(rt, bytes, 64, 0, 65536, 0)?;
+    parts(rt, bytes, 64, 0, 0, 65535)?;
+    parts(rt, bytes, 64, 0, 0, 65536)?;
+    parts(rt, bytes, 64, 65536, 0, 0)?;
+    parts(rt, bytes, 64, 32767, 1, 32767)?;
+    parts(rt, bytes, 64, 32767, 2, 32767)?;
+    parts(rt, bytes, 65535, 65533, 1, 1)?;
+    parts(rt, bytes, 65536, 65533, 1, 1)
 }
 
 // The sizes of a block cipher's key, block and answer: of AES-128, each way, and of AES-256.
-fn blocks(bytes: &[u8], call: Call) {
-    row(bytes, call, 16, 16, 16);
-    row(bytes, call, 0, 16, 16);
-    row(bytes, call, 15, 16, 16);
-    row(bytes, call, 17, 16, 16);
-    row(bytes, call, 32, 16, 16);
-    row(bytes, call, 16, 0, 16);
-    row(bytes, call, 16, 15, 16);
-    row(bytes, call, 16, 17, 16);
-    row(bytes, call, 16, 16, 0);
-    row(bytes, call, 16, 16, 15);
-    row(bytes, call, 16, 16, 17);
+fn blocks(rt: &impl Print, bytes: &[u8], call: Call) -> io::Result<()> {
+    row(rt, bytes, call, 16, 16, 16)?;
+    row(rt, bytes, call, 0, 16, 16)?;
+    row(rt, bytes, call, 15, 16, 16)?;
+    row(rt, bytes, call, 17, 16, 16)?;
+    row(rt, bytes, call, 32, 16, 16)?;
+    row(rt, bytes, call, 16, 0, 16)?;
+    row(rt, bytes, call, 16, 15, 16)?;
+    row(rt, bytes, call, 16, 17, 16)?;
+    row(rt, bytes, call, 16, 16, 0)?;
+    row(rt, bytes, call, 16, 16, 15)?;
+    row(rt, bytes, call, 16, 16, 17)
 }
 
-fn blocks_under_long_keys(bytes: &[u8]) {
-    row(bytes, Call::EncryptLong, 32, 16, 16);
-    row(bytes, Call::EncryptLong, 0, 16, 16);
-    row(bytes, Call::EncryptLong, 16, 16, 16);
-    row(bytes, Call::EncryptLong, 31, 16, 16);
-    row(bytes, Call::EncryptLong, 33, 16, 16);
-    row(bytes, Call::EncryptLong, 32, 0, 16);
-    row(bytes, Call::EncryptLong, 32, 15, 16);
-    row(bytes, Call::EncryptLong, 32, 17, 16);
-    row(bytes, Call::EncryptLong, 32, 16, 0);
-    row(bytes, Call::EncryptLong, 32, 16, 15);
-    row(bytes, Call::EncryptLong, 32, 16, 17);
+fn blocks_under_long_keys(rt: &impl Print, bytes: &[u8]) -> io::Result<()> {
+    row(rt, bytes, Call::EncryptLong, 32, 16, 16)?;
+    row(rt, bytes, Call::EncryptLong, 0, 16, 16)?;
+    row(rt, bytes, Call::EncryptLong, 16, 16, 16)?;
+    row(rt, bytes, Call::EncryptLong, 31, 16, 16)?;
+    row(rt, bytes, Call::EncryptLong, 33, 16, 16)?;
+    row(rt, bytes, Call::EncryptLong, 32, 0, 16)?;
+    row(rt, bytes, Call::EncryptLong, 32, 15, 16)?;
+    row(rt, bytes, Call::EncryptLong, 32, 17, 16)?;
+    row(rt, bytes, Call::EncryptLong, 32, 16, 0)?;
+    row(rt, bytes, Call::EncryptLong, 32, 16, 15)?;
+    row(rt, bytes, Call::EncryptLong, 32, 16, 17)
 }
 
 // The sizes of SHAVS' long messages.
-fn long_messages(bytes: &[u8]) {
+fn long_messages(rt: &impl Print, bytes: &[u8]) -> io::Result<()> {
     let mut i = 1;
     while i <= 64 {
-        row(bytes, Call::Hash, 0, 64 + 99 * i, 32);
+        row(rt, bytes, Call::Hash, 0, 64 + 99 * i, 32)?;
         i += 1;
     }
+    Ok(())
 }
 
-pub fn run() {
-    print::text(b"Sizes at the edges: call, bytes of key, message and answer, end, answer\n");
+pub fn run(rt: &impl Print) -> io::Result<()> {
+    print::text(
+        rt,
+        b"Sizes at the edges: call, bytes of key, message and answer, end, answer\n",
+    )?;
     let bytes = sequence();
-    hashes(&bytes);
-    tags(&bytes);
-    tags_of_parts(&bytes);
-    blocks(&bytes, Call::Encrypt);
-    blocks(&bytes, Call::Decrypt);
-    blocks_under_long_keys(&bytes);
-    long_messages(&bytes);
+    hashes(rt, &bytes)?;
+    tags(rt, &bytes)?;
+    tags_of_parts(rt, &bytes)?;
+    blocks(rt, &bytes, Call::Encrypt)?;
+    blocks(rt, &bytes, Call::Decrypt)?;
+    blocks_under_long_keys(rt, &bytes)?;
+    long_messages(rt, &bytes)
 }

@@ -1,3 +1,4 @@
+#![tactic(auto)]
 // Published vectors, and sizes at the edges, run through the exported calls of the primitives, those that a host links. What is printed is held to the
 // values in `stdout`: the publishers', and those that compare/vectors.py has from independent programs.
 mod aes128;
@@ -8,11 +9,13 @@ mod print;
 mod sha256_and_hmac;
 mod shavs;
 
-fn main() {
-    sha256_and_hmac::run();
-    shavs::run();
-    aes128::run();
-    aes256::run();
-    aesavs::run();
-    edges::run();
+use std::io;
+
+fn main(rt: HostRuntime) -> io::Result<()> {
+    sha256_and_hmac::run(&rt)?;
+    shavs::run(&rt)?;
+    aes128::run(&rt)?;
+    aes256::run(&rt)?;
+    aesavs::run(&rt)?;
+    edges::run(&rt)
 }

@@ -1,34 +1,32 @@
 // Printing bytes.
-use libc::STDOUT_FILENO;
+use std::io;
 
 // Two lower-case digits a byte.
-pub fn hex(bytes: &[u8]) {
-    let mut i = 0;
-    while i < bytes.len() {
-        io::print_hex(STDOUT_FILENO, bytes[i] as u64, 2);
-        i += 1;
+pub fn hex(rt: &impl Print, bytes: &[u8]) -> io::Result<()> {
+    for byte in bytes {
+        print!(rt; "{byte:02x}")?;
     }
+    Ok(())
 }
 
 // The first sixteen bytes, where there are as many.
-pub fn first_half(bytes: &[u8]) {
+pub fn first_half(rt: &impl Print, bytes: &[u8]) -> io::Result<()> {
     if 16 <= bytes.len() {
-        hex(&bytes[..16]);
+        hex(rt, &bytes[..16])?;
     }
+    Ok(())
 }
 
 // The number of a refusal, two digits, and a space.
-pub fn refusal(n: u64) {
-    io::print_hex(STDOUT_FILENO, n, 2);
-    text(b" ");
+pub fn refusal(rt: &impl Print, n: u64) -> io::Result<()> {
+    print!(rt; "{n:02x} ")
 }
 
 // A number in decimal, and a space.
-pub fn number(n: u32) {
-    io::print_decimal(STDOUT_FILENO, n as u64);
-    text(b" ");
+pub fn number(rt: &impl Print, n: u32) -> io::Result<()> {
+    print!(rt; "{n} ")
 }
 
-pub fn text(bytes: &[u8]) {
-    io::write_all(STDOUT_FILENO, bytes);
+pub fn text(rt: &impl Print, bytes: &[u8]) -> io::Result<()> {
+    rt.write_all(bytes)
 }

@@ -1,0 +1,12 @@
+-- `vectors::aes128::leading_ones` is safe and ends: the measure is the bytes that are left.
+use native.Mathlib.Omega.{arith}
+use Rattle.vectors.proofs.aes128.leading_ones.Goals as goal
+
+pub loop-k-init : goal.loop-k-init
+loop-k-init c = omega arith
+
+pub loop-k-smaller : goal.loop-k-smaller
+loop-k-smaller c = omega arith
+
+pub loop-k-preserved : goal.loop-k-preserved
+loop-k-preserved c = omega arith
