@@ -1,7 +1,7 @@
 #!/usr/bin/env python3
 """Checks that include/tag.h and the definitions name the same sizes, places, refusals and statuses, no fewer and no more.
 
-A size has the definition's name (nonceSize is TAG_NONCE_SIZE). A place has the names of the field that the innermost group stands for and of the field in it
+A size has the definition's name (nonce_size is TAG_NONCE_SIZE). A place has the names of the field that the innermost group stands for and of the field in it
 (TAG_NONCES_LIVE_AT), or of the field alone where it stands in the unit itself or is a group's only one (TAG_CONSENT_AT, TAG_PROTECTION_AT).
 The numbers that a table of docs/INTEGRATION.md gives for constants, and those of the host in Rust, are held to the header too.
 """
@@ -12,7 +12,7 @@ import sys
 ROOT = pathlib.Path(__file__).resolve().parent.parent
 SIZES = "crates/sizes/specs/Sizes.antt"
 PARTS = ["crates/record_fields/specs/Kinds.antt", "crates/record_parts/specs/Groups.antt", "crates/stored/specs/Record.antt"]
-KINDS = {"byte": "byteSize", "flag": "byteSize", "power": "powerSize"}
+KINDS = {"byte": "byte_size", "flag": "byte_size", "power": "power_size"}
 
 
 def read(path):
@@ -39,12 +39,11 @@ def value(expression, names):
 
 def fields(group, text):
     """The fields of a group in order: part and name."""
-    table = re.search(rf"^{group}Fields =\n((?:    .*\n)+)", text, re.M)[1]
+    table = re.search(rf"^{group}_fields =\n((?:    .*\n)+)", text, re.M)[1]
     found = []
     for part, name in re.findall(r"^    then (.*?) of (.*)$", table, re.M):
-        name = re.sub(r"^\(λ \w+\. \w+ \.|[«»)]", "", name)
-        name = re.sub(rf"^{group}(?=[A-Z])", "", name)
-        found.append((part, name[0].lower() + name[1:]))
+        name = re.sub(r"^\(λ \w+\. \w+\.|[«»)]", "", name)
+        found.append((part, name.removeprefix(f"{group}_")))
     return found
 
 
@@ -53,11 +52,11 @@ def places(group, called, at, text, sizes):
     found, own = {}, fields(group, text)
     for part, name in own:
         if part.startswith("whole "):
-            inner, at = places(part.split()[1].removesuffix("Fields"), name, at, text, sizes)
+            inner, at = places(part.split()[1].removesuffix("_fields"), name, at, text, sizes)
             found.update(inner)
             continue
         alone = group == "unit" or len(own) == 1
-        label = (name if group == "unit" else called) if alone else called + name[0].upper() + name[1:]
+        label = (name if group == "unit" else called) if alone else f"{called}_{name}"
         found[header_name(label) + "_AT"] = at
         kind = part.split()
         at += value(KINDS.get(kind[0]) or kind[1], sizes)
@@ -66,25 +65,25 @@ def places(group, called, at, text, sizes):
 
 def main():
     sizes = numbers(read(SIZES))
-    public = [n for n in sizes if n.endswith("Size") or n in ("answerRoom", "mostKeys", "mostNonces")]
+    public = [n for n in sizes if n.endswith("_size") or n in ("answer_room", "most_keys", "most_nonces")]
     text = "".join(map(read, PARTS))
     everything = {**sizes, **numbers(text)}
-    wanted = {header_name(n): value(n, everything) for n in [*public, "recordSize", "version"]}
-    found, end = places("unit", "unit", value("byteSize", everything), text, everything)
+    wanted = {header_name(n): value(n, everything) for n in [*public, "record_size", "version"]}
+    found, end = places("unit", "unit", value("byte_size", everything), text, everything)
     assert end == wanted["TAG_RECORD_SIZE"]
     wanted.update(found, TAG_VERSION_AT=0)
     exported = numbers(read("crates/exports/specs/Exported.antt"))
     wanted.update((header_name(n), value(n, exported)) for n in exported)
     parts = numbers(read("crates/desk/specs/Exported.antt"))
     wanted.update((header_name(n), value(n, {**sizes, **parts})) for n in parts)
-    wanted["TAG_WRONG_BYTE"] = int(numbers(read("crates/frame_reader/specs/Reader.antt"))["wrongByte"])
+    wanted["TAG_WRONG_BYTE"] = int(numbers(read("crates/frame_reader/specs/Reader.antt"))["wrong_byte"])
     calls = read("crates/lent_answer/specs/Ends.antt")
-    wanted["TAG_LONGEST_MESSAGE"] = value("longestMessage", sizes)
-    wanted["TAG_WRONG_SIZE"] = int(re.search(r"^endNumber Ending\.WrongSize = (\d+)$", calls, re.M)[1])
-    for name, n in re.findall(r"^refusalNumber (\w+) = (0x[0-9a-fA-F]+|\d+)$", read("crates/unit/specs/Refusals.antt"), re.M):
+    wanted["TAG_LONGEST_MESSAGE"] = value("longest_message", sizes)
+    wanted["TAG_WRONG_SIZE"] = int(re.search(r"^end_number Ending\.WrongSize = (\d+)$", calls, re.M)[1])
+    for name, n in re.findall(r"^refusal_number (\w+) = (0x[0-9a-fA-F]+|\d+)$", read("crates/unit/specs/Refusals.antt"), re.M):
         wanted[header_name(name)] = int(n, 0)
-    for name, n in re.findall(r"^(started|failed|timedOut|byButton|byRequest) = (\d+)$", read("crates/wire/specs/Signing.antt"), re.M):
-        wanted[header_name("ring" + name[0].upper() + name[1:])] = int(n)
+    for name, n in re.findall(r"^(started|failed|timed_out|by_button|by_request) = (\d+)$", read("crates/wire/specs/Signing.antt"), re.M):
+        wanted[header_name("ring_" + name)] = int(n)
     macros = dict(re.findall(r"^#define (TAG_\w+) (\([^/\n]*\)|\w+)", read("include/tag.h"), re.M))
     header = {n: value(n, macros) for n in macros}
     differing = sorted(n for n in wanted.keys() | header.keys() if wanted.get(n) != header.get(n))

@@ -59,7 +59,8 @@ class Source:
         self.text = (CRATE / f"src/{name}.rt").read_text()
         self.functions = {}
         for name, body in re.findall(r"^(?:pub )?fn (\w+)\([^)]*\)[^{]*\{\n(.*?)^\}", self.text, re.M | re.S):
-            self.functions[name] = re.findall(r"^    ([\w:]+)\(((?:[^\"()]|\"(?:[^\"\\]|\\.)*\")*)\);", body, re.M)
+            calls = re.findall(r"^    ([\w:]+)\(((?:[^\"()]|\"(?:[^\"\\]|\\.)*\")*)\)(?:\??;)?$", body, re.M)
+            self.functions[name] = [(called, re.sub(r"^\s*rt\b,?\s*", "", given).rstrip(" \n,")) for called, given in calls]
 
     def calls(self, name="run"):
         """The calls that a function makes in order, those without arguments followed into."""
