@@ -12,7 +12,8 @@ whole file, for the comment at its head); and what the list says itself. It is a
 - if a sentence has no answer, or an answer names something that does not exist, or a theorem that nothing proves;
 - if an edit's first line quotes nothing, or words of a paper that no sentence of the list has, or that a landed request superseded, or words of
   this repository that do not stand at the place named. Quotations of the standards are taken as they are;
-- if a public call is not among the `public calls` of the list, has fewer than two edits, or asks something of its caller (`requires`);
+- if a public call is not among the `public calls` of the list, has fewer than two edits, or asks something of its caller (`requires`), or if the archive's
+  crate does not export each of the library's calls as it stands there;
 - if docs/ACCEPTANCE.md does not have the letter's conditions word for word, if a page names an edit, a file or a definition of a crate that does not
   exist, or if README.md leaves a crate out.
 """
@@ -51,6 +52,14 @@ def check_calls(listed):
     for name in sorted(there & told.keys()):
         if len(told[name].edits) < 2:
             fail(f"{name}: fewer than two edits")
+
+
+def check_archive():
+    """The archive's crate has the library's calls, no fewer and no more, each with the library's signature and clauses, under the library's imports of them."""
+    parts = r'^ghost use .*?;|^#\[unsafe\(no_mangle\)\]\npub extern "C" fn .*?(?=\n\{)'
+    library, archive = (set(re.findall(parts, (ROOT / f"crates/{crate}/src/lib.rt").read_text(), re.M | re.S)) for crate in ("firmware", "firmware_c"))
+    for part in sorted(library ^ archive):
+        fail(f"firmware and firmware_c differ in: {part}")
 
 
 def check_documents(listed):
@@ -148,6 +157,7 @@ def main():
         match_clause(clause, listed)
     match_specs(listed, "--unmatched" in sys.argv)
     check_calls(listed)
+    check_archive()
     check_documents(listed)
     for s in listed:
         if not (s.definitions or s.edits or s.others):

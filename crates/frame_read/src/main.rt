@@ -3,13 +3,9 @@
 // the frame says, or the refusal in words. What is printed is the library `frame_text`'s to promise: this program reads, hands on byte after byte,
 // and writes. Where the system fails, standard error says so, and nothing more is printed.
 use frame_text::{Line, Text};
-use std::env::FillError;
-use std::io::{Error, ErrorKind, Read};
-use std::rt::{Env, Files};
-use std::{fs, io};
-
-// The longest path.
-const MOST_PATH: usize = 4096;
+use program_files::{MOST_PATH, argument, fail, has_argument, opened};
+use std::io::{ErrorKind, Read};
+use std::rt::Files;
 
 // The most bytes of one read.
 const BUFFER: usize = 65536;
@@ -45,20 +41,11 @@ fn main(rt: HostRuntime) {
         return;
     }
     let mut path = [0u8; MOST_PATH];
-    let Ok(length) = rt.arg(1, &mut path) else {
-        fail(&rt, b"path", Error::from(ErrorKind::InvalidFilename));
-        return;
-    };
-    if octets::same(&path[..length], b"--help") {
-        usage(&rt);
-        return;
+    match argument(&rt, 1, &mut path) {
+        Ok(length) if octets::same(&path[..length], b"--help") => usage(&rt),
+        Ok(length) => from_path(&rt, &path[..length]),
+        Err(why) => fail(&rt, b"path", why),
     }
-    from_path(&rt, &path[..length]);
-}
-
-// Whether there is an argument of this number. One that has no room here is there all the same.
-fn has_argument(rt: &impl Env, number: usize) -> bool {
-    !matches!(rt.arg(number, &mut []), Err(FillError::NotPresent))
 }
 
 fn usage(rt: &impl Eprint) {
@@ -67,24 +54,10 @@ fn usage(rt: &impl Eprint) {
     );
 }
 
-// Says on standard error what failed, and why. Where that cannot be said there is nowhere left to say it.
-fn fail(rt: &impl Eprint, what: &[u8], why: Error) {
-    let name = str::from_utf8(what).unwrap_or("a name that is not UTF-8");
-    let _ = eprintln!(rt; "{name}: {why}");
-}
-
 fn from_path<R: Files + Print + Eprint>(rt: &R, path: &[u8]) {
     match opened(rt, path) {
         Ok(mut file) => from_descriptor(rt, &mut file, path),
         Err(why) => fail(rt, path, why),
-    }
-}
-
-// Opens a file to be read. The system's paths are UTF-8 here.
-fn opened<R: Files>(rt: &R, path: &[u8]) -> io::Result<R::File> {
-    match str::from_utf8(path) {
-        Ok(name) => fs::open(rt, name),
-        Err(_) => Err(Error::from(ErrorKind::InvalidFilename)),
     }
 }
 

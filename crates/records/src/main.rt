@@ -7,15 +7,10 @@ ghost use Rattle.std.specs.Prelude.{◌≤◌, length, IfOk};
 mod calls;
 mod table;
 
-use std::env::FillError;
+use program_files::{MOST_PATH, argument, opened};
 use std::fs::File;
-use std::io::{Error, ErrorKind};
+use std::io;
 use std::os::unix::fs::FileExt;
-use std::rt::Env;
-use std::{fs, io};
-
-// The longest path.
-const MOST_PATH: usize = 4096;
 
 // The longest table.
 const MOST_BYTES: usize = 16777216;
@@ -27,25 +22,9 @@ const ENDED_BASE: u64 = 65536;
 
 fn main(rt: HostRuntime) -> io::Result<()> {
     let mut path = [0u8; MOST_PATH];
-    let length = argument(&rt, &mut path)?;
-    match str::from_utf8(&path[..length]) {
-        Ok(name) => {
-            let table = fs::open(&rt, name)?;
-            rows(&rt, &table)
-        }
-        Err(_) => Err(Error::from(ErrorKind::InvalidFilename)),
-    }
-}
-
-// The first argument, at the start of the buffer, and how long it is.
-fn argument(rt: &impl Env, path: &mut [u8; MOST_PATH]) -> io::Result<usize>
-    ensures { IfOk result (λ n. n ≤ length path.new) }
-{
-    match rt.arg(1, path) {
-        Ok(length) => Ok(length),
-        Err(FillError::NotPresent) => Err(Error::from(ErrorKind::InvalidInput)),
-        Err(FillError::TooLong) => Err(Error::from(ErrorKind::InvalidFilename)),
-    }
+    let length = argument(&rt, 1, &mut path)?;
+    let table = opened(&rt, &path[..length])?;
+    rows(&rt, &table)
 }
 
 // Runs each row of the table.

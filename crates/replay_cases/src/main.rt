@@ -2,14 +2,10 @@
 // Replays the files that its arguments name, and prints the name of each and what the replay prints: sessions with keys, and inputs at the
 // edges of the format. Then come the inputs that reach line 1,000,000, too long to store. compare/sessions/make.py makes args, data/ and the
 // answers in stdout; none of them comes from this program.
+use program_files::{MOST_PATH, argument, fail, has_argument};
 use session::Session;
-use std::env::FillError;
 use std::io;
-use std::io::{Error, ErrorKind};
 use std::rt::{Env, Files};
-
-// The longest path.
-const MOST_PATH: usize = 4096;
 
 // More arguments than a program can be given.
 const MOST_ARGUMENTS: usize = 4294967295;
@@ -28,20 +24,19 @@ fn main(rt: HostRuntime) -> io::Result<()> {
 
 // Replays the file that an argument names. Says whether there is such an argument.
 fn case<R: Env + Files + Print + Eprint>(rt: &R, i: usize) -> io::Result<bool> {
+    if !has_argument(rt, i) {
+        return Ok(false);
+    }
     let mut path = [0u8; MOST_PATH];
-    match rt.arg(i, &mut path) {
+    match argument(rt, i, &mut path) {
         Ok(length) => {
             rt.write_all(&path[..length])?;
             rt.write_all(b"\n")?;
             replay_file::from_path(rt, &path[..length]);
-            Ok(true)
         }
-        Err(FillError::NotPresent) => Ok(false),
-        Err(FillError::TooLong) => {
-            replay_file::fail(rt, b"path", Error::from(ErrorKind::InvalidFilename));
-            Ok(true)
-        }
+        Err(why) => fail(rt, b"path", why),
     }
+    Ok(true)
 }
 
 // Inputs that differ from line 999,999 on.

@@ -2,10 +2,10 @@
 // Replays a file to standard output: reads, feeds, writes. What is printed is promised by the libraries `replay` and `session_ends`; no contract
 // can speak of bytes that the system reads or writes. Where the system fails, standard error says so, the answers so far stand, and nothing more is
 // printed: a file that could not be read to its end is not called malformed.
+use program_files::{fail, opened};
 use session::{Finished, Session};
-use std::io::{Error, ErrorKind, Read};
+use std::io::{ErrorKind, Read};
 use std::rt::Files;
-use std::{fs, io};
 
 // The bytes that the format can hold: 1,000,000 lines of 256 bytes and their newlines. A read that is not the last brings at least one.
 const MOST_BYTES: u32 = 257000000;
@@ -36,20 +36,6 @@ pub fn from_path<R: Files + Print + Eprint>(rt: &R, path: &[u8]) {
         Ok(mut file) => from_descriptor(rt, &mut file, path),
         Err(why) => fail(rt, path, why),
     }
-}
-
-// Opens a file to be read. The system's paths are UTF-8 here.
-fn opened<R: Files>(rt: &R, path: &[u8]) -> io::Result<R::File> {
-    match str::from_utf8(path) {
-        Ok(name) => fs::open(rt, name),
-        Err(_) => Err(Error::from(ErrorKind::InvalidFilename)),
-    }
-}
-
-// Says on standard error what failed, and why. Where that cannot be said there is nowhere left to say it.
-pub fn fail(rt: &impl Eprint, what: &[u8], why: Error) {
-    let name = str::from_utf8(what).unwrap_or("a name that is not UTF-8");
-    let _ = eprintln!(rt; "{name}: {why}");
 }
 
 // Replays an open file, from where it stands to its end, or until the run has ended. A message about it says `name`.

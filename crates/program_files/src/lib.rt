@@ -1,0 +1,41 @@
+#![tactic(auto)]
+// What the programs ask of the system beside reading and writing: an argument, the file that a path names, and a message where something failed.
+ghost use Rattle.std.specs.Prelude.{◌≤◌, length, IfOk};
+
+use std::env::FillError;
+use std::io::{Error, ErrorKind};
+use std::rt::{Env, Files};
+use std::{fs, io};
+
+// The longest path.
+pub const MOST_PATH: usize = 4096;
+
+// Whether there is an argument of this number. One that has no room in a path is there all the same.
+pub fn has_argument(rt: &impl Env, number: usize) -> bool {
+    !matches!(rt.arg(number, &mut []), Err(FillError::NotPresent))
+}
+
+// Puts an argument at the start of the path, and gives its length. Where there is none the input is invalid, where it has no room its name is.
+pub fn argument(rt: &impl Env, number: usize, path: &mut [u8; MOST_PATH]) -> io::Result<usize>
+    ensures { IfOk result (λ n. n ≤ length path.new) }
+{
+    match rt.arg(number, path) {
+        Ok(length) => Ok(length),
+        Err(FillError::NotPresent) => Err(Error::from(ErrorKind::InvalidInput)),
+        Err(FillError::TooLong) => Err(Error::from(ErrorKind::InvalidFilename)),
+    }
+}
+
+// Opens the file that a path names, to be read. A path that is not UTF-8 is an invalid name here.
+pub fn opened<R: Files>(rt: &R, path: &[u8]) -> io::Result<R::File> {
+    match str::from_utf8(path) {
+        Ok(name) => fs::open(rt, name),
+        Err(_) => Err(Error::from(ErrorKind::InvalidFilename)),
+    }
+}
+
+// Says on standard error what failed, and why. Where that cannot be said there is nowhere left to say it.
+pub fn fail(rt: &impl Eprint, what: &[u8], why: Error) {
+    let name = str::from_utf8(what).unwrap_or("a name that is not UTF-8");
+    let _ = eprintln!(rt; "{name}: {why}");
+}
