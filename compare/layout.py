@@ -79,7 +79,7 @@ def main():
     wanted["TAG_WRONG_BYTE"] = int(numbers(read("crates/frame_reader/specs/Reader.antt"))["wrong_byte"])
     calls = read("crates/lent_answer/specs/Ends.antt")
     wanted["TAG_LONGEST_MESSAGE"] = value("longest_message", sizes)
-    wanted["TAG_WRONG_SIZE"] = int(re.search(r"^end_number Ending\.WrongSize = (\d+)$", calls, re.M)[1])
+    wanted["TAG_WRONG_SIZE"] = int(re.search(r"^end_number \(Err size\) = (\d+)$", calls, re.M)[1])
     for name, n in re.findall(r"^refusal_number (\w+) = (0x[0-9a-fA-F]+|\d+)$", read("crates/unit/specs/Refusals.antt"), re.M):
         wanted[header_name(name)] = int(n, 0)
     for name, n in re.findall(r"^(started|failed|timed_out|by_button|by_request) = (\d+)$", read("crates/wire/specs/Signing.antt"), re.M):

@@ -131,7 +131,7 @@ def of_aesavs_monte_carlo():
         *way, start, block = given
         key = start
         for count in range(100):
-            once = cipher(key, way != ["Way::Decrypt"])
+            once = cipher(key, way != ["decrypted"])
             for _ in range(1000):
                 before, block = block, once(block)
             key = bytes(a ^ b for a, b in zip(key, (before + block)[-len(key):]))

@@ -12,6 +12,7 @@ use lib.Dec.{eqb, ltb}
 use lib.ListN.{length, get_or, take, drop, length-append, length-drop, drop_of_length-le}
 use lib.Seq.{length-take-le, drop-append-add, drop-drop, take_all}
 use borrow.Author.Tests.{eqb-true, eqb-false, ltb-true, ltb-false, lt-ltb, le-ltb, eq-eqb, ne_eqb}
+use Rattle.std.specs.Prelude.{Some, None}
 use Rattle.laws.specs.Bytes.{same_bytes, all_zero}
 use Rattle.laws.proofs.Flags.{true_or_false, or_rest, both}
 use Rattle.laws.proofs.Same.{same_equal, zeros_later}
@@ -19,7 +20,7 @@ use Rattle.sizes.specs.Sizes.{account_key_size, most_keys, keys_room}
 use Rattle.tables.specs.Rows.{rows, among, distinct, place_of}
 use Rattle.tables.proofs.Rows.{length_rows, length_row, rows_first, rows_fewer, others, among_others, distinct_others, not_among_others, others_before, others_behind_lem, place_at}
 use Rattle.unit.specs.declared.Accounts.{Accounts}
-use Rattle.unit.specs.declared.Owner.{Owner}
+use Rattle.unit.specs.Types.{Owner}
 use Rattle.unit.specs.WellFormed.{held_keys, accounts_legal, place_legal, owner_legal, owned, row_of, owner_key}
 use Rattle.unit.proofs.Lines.{AccountsLines, accounts_lines, held_count}
 use Rattle.account_keys.specs.Order.{key_first, followed, key_used, least_used, place_for, key_added}
@@ -40,24 +41,24 @@ least_of true = omega arith
 least_of false = omega arith
 
 -- the least recently used is not the owner's
-pub not_least : (o : Owner) → o ≡ Owner.Place (least_used o) → ⊥
-not_least Owner.Nobody e = nobody e
+pub not_least : (o : Owner) → o ≡ Some (least_used o) → ⊥
+not_least None e = nobody e
   where
-    nobody : {p : ℕ} → Owner.Nobody ≡ Owner.Place p → ⊥
+    nobody : {p : ℕ} → None ≡ Some p → ⊥
     nobody f = false≢true (ap owned f)
-not_least (Owner.Place p) e = go (true_or_false (eqb p 9)) (ap place_in e)
+not_least (Some p) e = go (true_or_false (eqb p 9)) (ap place_in e)
   where
     place_in : Owner → ℕ
-    place_in Owner.Nobody = 0
-    place_in (Owner.Place q) = q
+    place_in None = 0
+    place_in (Some q) = q
 
     go : (eqb p 9 ≡ true) ⊎ (eqb p 9 ≡ false) → p ≡ cond (eqb p 9) 8 9 → ⊥
     go (inl t) f = let nine : p ≡ 9 = eqb-true p 9 t in let eight : p ≡ 8 = rw t at f in omega arith
     go (inr t) f = let nine : p ≡ 9 = rw t at f in eqb-false p 9 t nine
 
 pub least_below : (o : Owner) → least_used o < most_keys
-least_below Owner.Nobody = omega arith
-least_below (Owner.Place p) = least_of (eqb p 9)
+least_below None = omega arith
+least_below (Some p) = least_of (eqb p 9)
 
 -- The table with a key first: its length, and its rows
 module _ (place : ℕ) (key keys : List ℕ) (room : length keys ≡ keys_room) (sized : length key ≡ account_key_size) (below : place < most_keys) where
@@ -93,9 +94,9 @@ module _ (place : ℕ) (key keys : List ℕ) (room : length keys ≡ keys_room) 
 
 -- Where the owner stands, once a key came first and what stood at a place is gone
 data Standing (place p : ℕ) : Type 0 where
-  there : p ≡ place → followed place (Owner.Place p) ≡ Owner.Place 0 → Standing place p
-  before : p < place → followed place (Owner.Place p) ≡ Owner.Place (suc p) → Standing place p
-  behind : place < p → followed place (Owner.Place p) ≡ Owner.Place p → Standing place p
+  there : p ≡ place → followed place (Some p) ≡ Some 0 → Standing place p
+  before : p < place → followed place (Some p) ≡ Some (suc p) → Standing place p
+  behind : place < p → followed place (Some p) ≡ Some p → Standing place p
 
 standing : (place p : ℕ) → Standing place p
 standing place p = go (true_or_false (eqb p place)) (true_or_false (ltb p place))
@@ -114,10 +115,10 @@ standing place p = go (true_or_false (eqb p place)) (true_or_false (ltb p place)
 -- it is a place of the new count
 followed_legal : (place : ℕ) (o : Owner) (count after : ℕ) → place_legal o count ≡ true → count ≤ after → place < after
     → place_legal (followed place o) after ≡ true
-followed_legal place Owner.Nobody count after h most below = refl
-followed_legal place (Owner.Place p) count after h most below = go (standing place p)
+followed_legal place None count after h most below = refl
+followed_legal place (Some p) count after h most below = go (standing place p)
   where
-    go : Standing place p → place_legal (followed place (Owner.Place p)) after ≡ true
+    go : Standing place p → place_legal (followed place (Some p)) after ≡ true
     go (there e f) = ap (λ (x : Owner). place_legal x after) f ∙ lt-ltb 0 after (omega arith)
     go (before b f) = ap (λ (x : Owner). place_legal x after) f ∙ lt-ltb (suc p) after (omega arith)
     go (behind b f) =
@@ -126,13 +127,13 @@ followed_legal place (Owner.Place p) count after h most below = go (standing pla
 
 -- and has the owner's key
 followed_row : (place : ℕ) (o : Owner) (l : List (List ℕ)) (key : List ℕ) → place < length l → place_legal o (length l) ≡ true
-    → (o ≡ Owner.Place place → key ≡ get_or l place []) → row_of (followed place o) (key ∷ others place l) ≡ row_of o l
-followed_row place Owner.Nobody l key below h same = refl
-followed_row place (Owner.Place p) l key below h same = go (standing place p)
+    → (o ≡ Some place → key ≡ get_or l place []) → row_of (followed place o) (key ∷ others place l) ≡ row_of o l
+followed_row place None l key below h same = refl
+followed_row place (Some p) l key below h same = go (standing place p)
   where
-    go : Standing place p → row_of (followed place (Owner.Place p)) (key ∷ others place l) ≡ some (get_or l p [])
+    go : Standing place p → row_of (followed place (Some p)) (key ∷ others place l) ≡ some (get_or l p [])
     go (there e f) =
-        ap (λ (x : Owner). row_of x (key ∷ others place l)) f ∙ ap some (same (ap Owner.Place e) ∙ ap (λ (n : ℕ). get_or l n []) (sym e))
+        ap (λ (x : Owner). row_of x (key ∷ others place l)) f ∙ ap some (same (ap Some e) ∙ ap (λ (n : ℕ). get_or l n []) (sym e))
     go (before b f) = ap (λ (x : Owner). row_of x (key ∷ others place l)) f ∙ ap some (others_before place p l b below)
     go (behind b f) =
         let next : p ≡ suc (p - 1) = omega arith in
@@ -249,8 +250,8 @@ module _ (a : Accounts) (l : AccountsLines a) (key : List ℕ) (sized : length k
 
       -- an owner that is held stands one further on
       one_on : (o : Owner) → place_legal o a.count ≡ true → row_of (followed a.count o) (key ∷ held_keys a) ≡ row_of o (held_keys a)
-      one_on Owner.Nobody h = refl
-      one_on (Owner.Place p) h =
+      one_on None h = refl
+      one_on (Some p) h =
           let below : p < a.count = ltb-true p a.count h in
           rw (ne_eqb p a.count (λ e. omega arith), lt-ltb p a.count below)
   sound new legal (inr full) =
@@ -288,5 +289,5 @@ module _ (a : Accounts) (l : AccountsLines a) (key : List ℕ) (sized : length k
 
 -- whether there is an owner does not change
 pub followed_owned : (place : ℕ) (o : Owner) → owned (followed place o) ≡ owned o
-followed_owned place Owner.Nobody = refl
-followed_owned place (Owner.Place p) = refl
+followed_owned place None = refl
+followed_owned place (Some p) = refl

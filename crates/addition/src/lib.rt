@@ -1,78 +1,91 @@
 #![tactic(auto)]
 // A point in Jacobian coordinates and one in affine coordinates, added.
 ghost use Rattle.curve_laws.specs.Modulo.{times, minus};
-ghost use Rattle.curve_laws.proofs.Jacobian.{add_with, added};
-ghost use Rattle.field.specs.Montgomery.{Field, Form, Holds, Gives};
+ghost use Rattle.curve_laws.proofs.Jacobian.{triple, add_with, added};
+ghost use Rattle.field.specs.Forms.{Form, Gives};
 ghost use Rattle.doubling.specs.Coordinates.{coordinates, Forms, Makes};
+ghost use Rattle.addition.specs.Affine.{AffineForms};
 
 use doubling::small::twofold;
 use doubling::{Jacobian, double, new_y};
-use field::operation::{difference, is_zero, product};
+use field::Prime;
+
+// (x, y). The coordinates are in Montgomery's form.
+#[derive(Clone, Copy)]
+pub struct Affine<const N: usize> {
+    pub x: [u32; N],
+    pub y: [u32; N],
+}
 
 // H = x Z^2 - X
-fn across(x: [u32; 8], jx: [u32; 8], zz: [u32; 8], m: &[u32], inv: u32) -> [u32; 8]
-    requires { Field m.now inv × Form m.now x × Form m.now jx × Form m.now zz }
-    ensures { Gives m.now inv result (λ p v. minus p (times p (v x) (v zz)) (v jx)) }
+fn across<const N: usize>(f: &Prime<N>, x: [u32; N], jx: [u32; N], zz: [u32; N]) -> [u32; N]
+    requires { Form f.now x × Form f.now jx × Form f.now zz }
+    ensures { Gives f.now result (λ p v. minus p (times p (v x.entry) (v zz.entry)) (v jx.entry)) }
 {
-    difference(product(x, zz, m, inv), jx, m, inv)
+    f.difference(f.product(x, zz), jx)
 }
 
 // R = y Z^3 - Y
-fn up(y: [u32; 8], jy: [u32; 8], z: [u32; 8], zz: [u32; 8], m: &[u32], inv: u32) -> [u32; 8]
-    requires { Field m.now inv × Form m.now y × Form m.now jy × Form m.now z × Form m.now zz }
-    ensures { Gives m.now inv result (λ p v. minus p (times p (v y) (times p (v z) (v zz))) (v jy)) }
+fn up<const N: usize>(
+    f: &Prime<N>,
+    y: [u32; N],
+    jy: [u32; N],
+    z: [u32; N],
+    zz: [u32; N],
+) -> [u32; N]
+    requires { Form f.now y × Form f.now jy × Form f.now z × Form f.now zz }
+    ensures { Gives f.now result (λ p v. minus p (times p (v y.entry) (times p (v z.entry) (v zz.entry))) (v jy.entry)) }
 {
-    difference(product(y, product(z, zz, m, inv), m, inv), jy, m, inv)
+    f.difference(f.product(y, f.product(z, zz)), jy)
 }
 
 // X' = R^2 - H^3 - 2 S
-fn new_x(r: [u32; 8], hhh: [u32; 8], s: [u32; 8], m: &[u32], inv: u32) -> [u32; 8]
-    requires { Field m.now inv × Form m.now r × Form m.now hhh × Form m.now s }
-    ensures { Gives m.now inv result (λ p v. minus p (minus p (times p (v r) (v r)) (v hhh)) (times p 2 (v s))) }
+fn new_x<const N: usize>(f: &Prime<N>, r: [u32; N], hhh: [u32; N], s: [u32; N]) -> [u32; N]
+    requires { Form f.now r × Form f.now hhh × Form f.now s }
+    ensures { Gives f.now result (λ p v. minus p (minus p (times p (v r.entry) (v r.entry)) (v hhh.entry)) (times p 2 (v s.entry))) }
 {
-    let rr = product(r, r, m, inv);
-    difference(difference(rr, hhh, m, inv), twofold(s, m, inv), m, inv)
+    f.difference(f.difference(f.square(r), hhh), twofold(f, s))
 }
 
 // The third point of the line that runs H across and R up
-fn through(h: [u32; 8], r: [u32; 8], j: Jacobian, m: &[u32], inv: u32) -> Jacobian
-    requires { Field m.now inv × Form m.now h × Form m.now r × Forms m.now j }
-    ensures { Makes m.now inv result (λ p v. add_with p (v h) (v r) (coordinates m.now inv j)) }
+#[tactic(auto, unfolding(curve_laws::proofs::Jacobian::add_with, curve_laws::proofs::Jacobian::add_x))]
+fn through<const N: usize>(f: &Prime<N>, h: [u32; N], r: [u32; N], j: Jacobian<N>) -> Jacobian<N>
+    requires { Form f.now h × Form f.now r × Forms f.now j }
+    ensures { Makes f.now result (λ p v. add_with p (v h.entry) (v r.entry) (coordinates f.now j.entry)) }
 {
-    let x = j.x;
-    let y = j.y;
-    let z = j.z;
-    let hh = product(h, h, m, inv);
-    let hhh = product(h, hh, m, inv);
-    let s = product(x, hh, m, inv);
-    let next = new_x(r, hhh, s, m, inv);
-    let side = new_y(r, s, next, product(y, hhh, m, inv), m, inv);
-    let depth = product(h, z, m, inv);
-    Jacobian {
-        x: next,
-        y: side,
-        z: depth,
-    }
+    let hh = f.square(h);
+    let hhh = f.product(h, hh);
+    let s = f.product(j.x, hh);
+    let x = new_x(f, r, hhh, s);
+    let y = new_y(f, r, s, x, f.product(j.y, hhh));
+    let z = f.product(h, j.z);
+    Jacobian { x, y, z }
 }
 
-// The sum with (x, y). one is the form that holds 1.
-pub fn add(j: Jacobian, x: [u32; 8], y: [u32; 8], one: [u32; 8], m: &[u32], inv: u32) -> Jacobian
-    requires { Field m.now inv × Form m.now x × Form m.now y × Forms m.now j × Holds m.now inv one 1 }
-    ensures { Makes m.now inv result (λ p v. added p (v x) (v y) (coordinates m.now inv j)) }
+// q itself, with z = 1
+fn lifted<const N: usize>(f: &Prime<N>, q: &Affine<N>) -> Jacobian<N>
+    requires { AffineForms f.now q.now }
+    ensures { Makes f.now result (λ p v. triple (v q.now.x) (v q.now.y) 1) }
 {
-    let jx = j.x;
-    let jy = j.y;
-    let z = j.z;
-    if is_zero(z, m, inv) {
-        return Jacobian { x, y, z: one };
+    let Affine { x, y } = *q;
+    let z = f.one();
+    Jacobian { x, y, z }
+}
+
+// The sum with q
+#[tactic(auto, unfolding(curve_laws::proofs::Jacobian::added, curve_laws::proofs::Jacobian::add_h, curve_laws::proofs::Jacobian::add_r))]
+pub fn add<const N: usize>(f: &Prime<N>, j: Jacobian<N>, q: &Affine<N>) -> Jacobian<N>
+    requires { Forms f.now j × AffineForms f.now q.now }
+    ensures { Makes f.now result (λ p v. added p (v q.now.x) (v q.now.y) (coordinates f.now j.entry)) }
+{
+    if f.is_zero(j.z) {
+        return lifted(f, q);
     }
-    let zz = product(z, z, m, inv);
-    let h = across(x, jx, zz, m, inv);
-    let r = up(y, jy, z, zz, m, inv);
-    if is_zero(h, m, inv) {
-        if is_zero(r, m, inv) {
-            return double(j, m, inv);
-        }
+    let zz = f.square(j.z);
+    let h = across(f, q.x, j.x, zz);
+    let r = up(f, q.y, j.y, j.z, zz);
+    if f.is_zero(h) && f.is_zero(r) {
+        return double(f, j);
     }
-    through(h, r, j, m, inv)
+    through(f, h, r, j)
 }

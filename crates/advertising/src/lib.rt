@@ -21,15 +21,11 @@ pub fn shown(u: TagUnit, answer: &mut [u8]) -> Step
     requires { (u.battery ≤ highest_battery) × (answer_room ≤ length answer.old) }
     ensures { Answers (showing u) result.unit result.reply answer.old answer.new }
 {
-    let i = standing::current(u);
-    if i.some {
-        let protection = u.protection;
-        let on = protected(protection);
-        let r = i.r;
-        let id = i.id;
-        let flags = frame::flags_for(u.battery, on, r);
-        let count = frame::render(id, on, flags, answer);
-        return end::accept(u, count);
-    }
-    end::refuse(u, Refusal::NoFrame)
+    let Some(i) = standing::current(u) else {
+        return end::refuse(u, Refusal::NoFrame);
+    };
+    let on = protected(u.protection);
+    let flags = frame::flags_for(u.battery, on, i.r);
+    let count = frame::render(i.id, on, flags, answer);
+    end::accept(u, count)
 }

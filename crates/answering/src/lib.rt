@@ -1,18 +1,14 @@
 #![tactic(auto)]
-// The verdict on a request, and its end: the one place where the answers of the nine requests are signed and written.
-ghost use Rattle.std.specs.Prelude.{◌≡◌, List, ℕ, ◌≤◌, length, take};
+// The verdict on a request that is granted, and the end of a request: the one place where the answers of the nine requests are signed and written.
+ghost use Rattle.std.specs.Prelude.{◌≤◌, length};
 ghost use Rattle.sizes.specs.Sizes.{most_data, answer_room};
-ghost use Rattle.primitives.specs.Standards.{keyed_by};
 ghost use Rattle.unit.specs.Outcome.{Answers};
-ghost use Rattle.unit.specs.declared.TagUnit.{TagUnit};
-ghost use Rattle.wire.specs.Signing.{signed};
-ghost use Rattle.laws.specs.Answer.{Wrote};
-ghost use Rattle.authentication.specs.Judgement.{Judgement, last_nonce, concluded};
-ghost use Rattle.authentication.specs.Promises.{Grants, Denies, Judges};
+ghost use Rattle.authentication.specs.Judgement.{Judgement, concluded};
+ghost use Rattle.authentication.specs.Promises.{Grants, Judges};
 
-use authentication::{Ruling, Verdict};
+use authentication::Verdict;
 use primitives::Keyed;
-use sizes::{MOST_DATA, NONCE_SIZE};
+use sizes::MOST_DATA;
 use unit::{Refusal, Step, TagUnit, end};
 
 // Granted to a key, with these data in the answer.
@@ -24,55 +20,23 @@ pub fn granted(unit: TagUnit, key: Keyed, data: &[u8]) -> Verdict
     octets::put(&mut payload, 0, data);
     Verdict {
         unit,
-        ruling: Ruling::Granted(key),
+        key,
         size: data.len(),
         payload,
     }
 }
 
-// Denied.
-pub fn denied(unit: TagUnit, refusal: Refusal) -> Verdict
-    ensures { Denies unit refusal result }
+// Ends a request that was judged on a unit: refuses, or writes the answer, signed with the nonce that the request was judged with.
+pub fn conclude(u: TagUnit, judged: Result<Verdict, Refusal>, id: u8, answer: &mut [u8]) -> Step
+    requires { answer_room ≤ length answer.old }
+    ensures { (j : Judgement) → Judges u id j judged → Answers (concluded u j) result.unit result.reply answer.old answer.new }
 {
-    Verdict {
-        unit,
-        ruling: Ruling::Denied(refusal),
-        size: 0,
-        payload: [0; MOST_DATA],
-    }
-}
-
-// Writes an answer: the data, signed with a key and a nonce.
-fn write_signed(
-    key: Keyed,
-    nonce: [u8; NONCE_SIZE],
-    id: u8,
-    size: usize,
-    payload: [u8; MOST_DATA],
-    answer: &mut [u8],
-) -> usize
-    requires { (size ≤ most_data) × (answer_room ≤ length answer.old) }
-    ensures { (k : List ℕ) → key ≡ keyed_by k → Wrote (signed k nonce id (take size payload)) result answer.old answer.new }
-{
-    answers::sign(key, nonce, id, &payload[..size], answer)
-}
-
-// Ends a request that was judged on a unit with this nonce: refuses, or writes the signed answer.
-pub fn conclude(v: Verdict, nonce: [u8; NONCE_SIZE], id: u8, answer: &mut [u8]) -> Step
-    requires { (v.size ≤ most_data) × (answer_room ≤ length answer.old) }
-    ensures { (u : TagUnit) (j : Judgement) → nonce ≡ last_nonce u → Judges u id j v → Answers (concluded u j) result.unit result.reply answer.old answer.new }
-{
-    let ruling = v.ruling;
-    match ruling {
-        Ruling::Denied(refusal) => {
-            let unit = v.unit;
-            end::refuse(unit, refusal)
+    match judged {
+        Ok(v) => {
+            let data = &v.payload[..v.size];
+            let count = answers::sign(v.key, u.nonces.newest, id, data, answer);
+            end::accept(v.unit, count)
         }
-        Ruling::Granted(key) => {
-            let after = v.unit;
-            let payload = v.payload;
-            let count = write_signed(key, nonce, id, v.size, payload, answer);
-            end::accept(after, count)
-        }
+        Err(refusal) => end::refuse(u, refusal),
     }
 }

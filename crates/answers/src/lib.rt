@@ -11,6 +11,7 @@ use sizes::{HEAD_SIZE, IDENTITY_KEY_SIZE, NONCE_SIZE, TAG_SIZE};
 use wire::signing;
 
 // The ID of a ring and of its notices, and the status of a notice.
+// Kept: what may not change: `notice_data` and `stop_notice` promise a notice of every status byte, which an enum would narrow.
 pub const RING_ID: u8 = 0x05;
 
 pub const STARTED: u8 = 0;
@@ -43,7 +44,7 @@ pub fn sign(key: Keyed, nonce: [u8; NONCE_SIZE], id: u8, data: &[u8], answer: &m
 pub fn notice_data(status: u8, mask: u8, left: u16) -> [u8; NOTICE_SIZE]
     ensures { result ≡ notice_data status mask left }
 {
-    let tenths = octets::two(left);
+    let tenths = left.to_be_bytes();
     [status, mask, tenths[0], tenths[1]]
 }
 

@@ -12,9 +12,7 @@ use wire::signing;
 pub fn derived_key(u: TagUnit, number: u8) -> Keyed
     ensures { result ≡ keyed_by (derived_key number u.identity.bytes) }
 {
-    let k = u.identity;
-    let identity = k.bytes;
-    let key = signing::derived_key(number, identity);
+    let key = signing::derived_key(number, u.identity.bytes);
     primitives::ready_key(&key)
 }
 
@@ -22,10 +20,6 @@ pub fn derived_key(u: TagUnit, number: u8) -> Keyed
 pub fn proves(u: TagUnit, proof: &[u8]) -> bool
     ensures { result ≡ is_proof u proof.now }
 {
-    let in_force = u.identity;
-    let identity = in_force.bytes;
-    let n = u.nonces;
-    let nonce = n.newest;
-    let made = signing::key_proof(identity, nonce);
+    let made = signing::key_proof(u.identity.bytes, u.nonces.newest);
     octets::same(&made, proof)
 }

@@ -1,7 +1,10 @@
 #![tactic(auto)]
 // AES (FIPS 197): one block of 16 bytes, each way under a key of 16 bytes, and encrypted under one of 32. Both are uses of one key expansion over Nk
 // and one cipher over Nr. Where two blocks follow one another under a key, its schedule is made once.
-ghost use Rattle.std.specs.Prelude.{◌≡◌};
+ghost use Rattle.std.specs.Prelude.{◌≡◌, ◌+◌, ◌-◌, ◌*◌, ◌≤◌, length};
+ghost use Rattle.words.specs.Words.{bytes_of};
+ghost use Rattle.key_schedule.specs.Expansion.{expanded};
+ghost use Rattle.key_schedule.specs.Fours.{Fours};
 ghost use Rattle.cipher.specs.Aes.{AES128, InvAES128, AES256};
 
 use inverse_keys::unmix_keys;
@@ -15,12 +18,21 @@ pub struct Blocks {
     pub second: [u8; 16],
 }
 
+// The key schedule of N words of a key of nk words.
+fn schedule<const N: usize>(nk: usize, key: &[u8]) -> [u32; N]
+    requires { (nk ≤ N) × ((N ≤ 60) × (Fours nk (N - nk) × (length key.now ≡ 4 * nk))) }
+    ensures { bytes_of result ≡ expanded nk (N - nk) key.now }
+{
+    let mut keys = [0u32; N];
+    expand(nk, N - nk, key, &mut keys);
+    keys
+}
+
 // AES-128: the block encrypted under the key.
 pub fn encrypt(key: [u8; 16], block: [u8; 16]) -> [u8; 16]
     ensures { result ≡ AES128 key block }
 {
-    let mut keys = [0u32; 44];
-    expand(4, 40, &key, &mut keys);
+    let keys = schedule::<44>(4, &key);
     cipher(&keys, 10, block)
 }
 
@@ -28,8 +40,7 @@ pub fn encrypt(key: [u8; 16], block: [u8; 16]) -> [u8; 16]
 pub fn decrypt(key: [u8; 16], block: [u8; 16]) -> [u8; 16]
     ensures { result ≡ InvAES128 key block }
 {
-    let mut keys = [0u32; 44];
-    expand(4, 40, &key, &mut keys);
+    let mut keys = schedule::<44>(4, &key);
     unmix_keys(10, &mut keys);
     inv_cipher(&keys, 10, block)
 }
@@ -38,8 +49,7 @@ pub fn decrypt(key: [u8; 16], block: [u8; 16]) -> [u8; 16]
 pub fn encrypt256(key: [u8; 32], block: [u8; 16]) -> [u8; 16]
     ensures { result ≡ AES256 key block }
 {
-    let mut keys = [0u32; 60];
-    expand(8, 52, &key, &mut keys);
+    let keys = schedule::<60>(8, &key);
     cipher(&keys, 14, block)
 }
 
@@ -47,13 +57,10 @@ pub fn encrypt256(key: [u8; 32], block: [u8; 16]) -> [u8; 16]
 pub fn encrypt_pair(key: [u8; 16], first: [u8; 16], second: [u8; 16]) -> Blocks
     ensures { (result.first ≡ AES128 key first) × (result.second ≡ AES128 key second) }
 {
-    let mut keys = [0u32; 44];
-    expand(4, 40, &key, &mut keys);
-    let one = cipher(&keys, 10, first);
-    let two = cipher(&keys, 10, second);
+    let keys = schedule::<44>(4, &key);
     Blocks {
-        first: one,
-        second: two,
+        first: cipher(&keys, 10, first),
+        second: cipher(&keys, 10, second),
     }
 }
 
@@ -61,14 +68,11 @@ pub fn encrypt_pair(key: [u8; 16], first: [u8; 16], second: [u8; 16]) -> Blocks
 pub fn decrypt_pair(key: [u8; 16], first: [u8; 16], second: [u8; 16]) -> Blocks
     ensures { (result.first ≡ InvAES128 key first) × (result.second ≡ InvAES128 key second) }
 {
-    let mut keys = [0u32; 44];
-    expand(4, 40, &key, &mut keys);
+    let mut keys = schedule::<44>(4, &key);
     unmix_keys(10, &mut keys);
-    let one = inv_cipher(&keys, 10, first);
-    let two = inv_cipher(&keys, 10, second);
     Blocks {
-        first: one,
-        second: two,
+        first: inv_cipher(&keys, 10, first),
+        second: inv_cipher(&keys, 10, second),
     }
 }
 
@@ -76,12 +80,9 @@ pub fn decrypt_pair(key: [u8; 16], first: [u8; 16], second: [u8; 16]) -> Blocks
 pub fn encrypt256_pair(key: [u8; 32], first: [u8; 16], second: [u8; 16]) -> Blocks
     ensures { (result.first ≡ AES256 key first) × (result.second ≡ AES256 key second) }
 {
-    let mut keys = [0u32; 60];
-    expand(8, 52, &key, &mut keys);
-    let one = cipher(&keys, 14, first);
-    let two = cipher(&keys, 14, second);
+    let keys = schedule::<60>(8, &key);
     Blocks {
-        first: one,
-        second: two,
+        first: cipher(&keys, 14, first),
+        second: cipher(&keys, 14, second),
     }
 }

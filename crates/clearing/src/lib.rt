@@ -5,7 +5,7 @@ ghost use Rattle.wire.specs.Shape.{request};
 ghost use Rattle.authentication.specs.Promises.{Ready, Judges};
 ghost use Rattle.clearing.specs.Clearing.{cleared as cleared_unit, clear_key};
 
-use authentication::{Signer, Verdict, identity};
+use authentication::{Verdict, identity};
 use unit::{Refusal, TagUnit, change};
 use wire::Head;
 
@@ -13,28 +13,23 @@ use wire::Head;
 fn cleared(u: TagUnit) -> TagUnit
     ensures { result ≡ cleared_unit u }
 {
-    let settings = u.settings;
-    let clock = u.clock;
-    let nonces = u.nonces;
-    let mut after = change::fresh(settings);
-    after.clock = clock;
-    after.nonces = nonces;
-    after.battery = u.battery;
-    after.pairing = u.pairing;
-    after
+    TagUnit {
+        clock: u.clock,
+        nonces: u.nonces,
+        battery: u.battery,
+        pairing: u.pairing,
+        ..change::fresh(u.settings)
+    }
 }
 
 // 0x03: clears the identity key.
-pub fn clear_key(u: TagUnit, h: Head, additional: &[u8]) -> Verdict
+pub fn clear_key(u: TagUnit, h: Head, additional: &[u8]) -> Result<Verdict, Refusal>
     requires { Ready u h.size additional.now }
     ensures { Judges u h.id (clear_key u (request h additional.now)) result }
 {
-    let found = signers::signed_by_owner(u, h, additional);
-    let Signer::Holder(_, ready) = found else {
-        return answering::denied(u, Refusal::NotAuthenticated);
-    };
+    let signer = signers::signed_by_owner(u, h, additional).ok_or(Refusal::NotAuthenticated)?;
     if !identity::proves(u, additional) {
-        return answering::denied(u, Refusal::NotAuthenticated);
+        return Err(Refusal::NotAuthenticated);
     }
-    answering::granted(cleared(u), ready, b"")
+    Ok(answering::granted(cleared(u), signer.key, b""))
 }

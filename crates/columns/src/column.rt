@@ -3,6 +3,8 @@ ghost use Rattle.std.specs.Prelude.{◌≡◌};
 ghost use Rattle.substitution.specs.Field.{◌•◌};
 ghost use Rattle.columns.specs.Columns.{each_byte, mixed_word};
 
+// Kept: words are turned by two shifts, as the definition of a turn has it; std's rotation is an `or` of them, and would need a law beside it.
+
 // Each byte times 02. The digit that leaves a byte comes back as 1b.
 fn doubled(w: u32) -> u32
     ensures { result ≡ each_byte (λ b. 0x02 • b) w }

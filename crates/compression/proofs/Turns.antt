@@ -1,5 +1,5 @@
 -- Turns one after another, and what the buffer of sixteen words holds at the start.
-use Rattle.std.proofs.Common.{◌≡◌, ℕ, ◌+◌, ◌-◌, ◌*◌, ◌%◌, ◌<◌, ◌≤◌, List, length, get_or, sym, refl, ap, ◌∙◌, add-zero, add_assoc, add-one, arith}
+use Rattle.std.proofs.Common.{◌≡◌, ℕ, ◌+◌, ◌-◌, ◌%◌, ◌^◌, ◌<◌, ◌≤◌, List, length, get_or, sym, refl, ◌∙◌, add-zero, add_assoc, add-one, arith}
 use Rattle.message_schedule.specs.Schedule.{W}
 use Rattle.message_schedule.specs.Window.{Holds, Made}
 use Rattle.message_schedule.proofs.Words.{W-first}
@@ -7,6 +7,10 @@ use Rattle.compression.specs.Constants.{K}
 use Rattle.compression.specs.Compression.{turn, turns, compress, added}
 use Rattle.compression.specs.Turns.{Taken}
 use Rattle.compression.specs.declared.Working.{Working}
+
+-- sums that are taken modulo 2^32 one after another
+pub four_sums : (h s c k w : ℕ) → ((((h + s) % 2 ^ 32 + c) % 2 ^ 32 + k) % 2 ^ 32 + w) % 2 ^ 32 ≡ (h + s + c + k + w) % 2 ^ 32
+four_sums h s c k w = omega arith
 
 pub taken_one : (t x k : ℕ) (w w' : List ℕ) (v v' : Working) → Made t w w' x → k ≡ get_or K t 0 → v' ≡ turn k x v → Taken 1 t w w' v v'
 unfolding turns

@@ -8,9 +8,10 @@
 // NIST CAVP (ECC CDH, P-256, count 0), then n - 1, n, n + 1, 0 and 2^256 - 1;
 // as r' 0 and n, where there is no identifier, 2^160, whose r is cut to 20 zero bytes, 2^160 + 1, n - 1, 2^160 - 1, 1, n + 1 and 2^256 - 1, with the answers of
 // OpenSSL's curve (compare/curves/compare.py).
+use curves::Multiple;
 use curves::secp160r1::secp160r1;
 use curves::secp256r1::secp256r1;
-use hex_reading::{Octets, unhex};
+use hex_reading::unhex;
 use notation::text::hex_line;
 use std::io;
 use std::io::Read;
@@ -32,40 +33,26 @@ fn answer(rt: &impl Print, r: &[u8], x: &[u8]) -> io::Result<()> {
     rt.write_all(&out[..end])
 }
 
-fn on_secp160r1(rt: &impl Print, number: [u8; 32]) -> io::Result<()> {
-    let m = secp160r1(number);
-    let r = m.r;
-    let x = m.x;
-    answer(rt, &r, &x)
-}
-
-fn on_secp256r1(rt: &impl Print, number: [u8; 32]) -> io::Result<()> {
-    let m = secp256r1(number);
-    let r = m.r;
-    let x = m.x;
-    answer(rt, &r, &x)
+fn on_curve<const N: usize>(rt: &impl Print, m: Multiple<N>) -> io::Result<()> {
+    answer(rt, &m.r, &m.x)
 }
 
 fn as_r_prime(rt: &impl Print, number: [u8; 32]) -> io::Result<()> {
-    let i = identifier::from_number(number);
-    if i.some {
-        let r = i.r;
-        let id = i.id;
-        answer(rt, &r, &id)
-    } else {
-        rt.write_all(b"none\n")
+    match identifier::from_number(number) {
+        Some(i) => answer(rt, &i.r, &i.id),
+        None => rt.write_all(b"none\n"),
     }
 }
 
 // Answers a line.
 fn line(rt: &impl Print, text: [u8; 67]) -> io::Result<()> {
     let mut number = [0u8; 32];
-    let Octets::Count(_) = unhex(&text[2..66], &mut number) else {
+    if unhex(&text[2..66], &mut number).is_none() {
         return Ok(());
-    };
+    }
     match text[0] {
-        b'0' => on_secp160r1(rt, number),
-        b'1' => on_secp256r1(rt, number),
+        b'0' => on_curve(rt, secp160r1(number)),
+        b'1' => on_curve(rt, secp256r1(number)),
         _ => as_r_prime(rt, number),
     }
 }

@@ -13,6 +13,7 @@ use lib.Dec.{eqb, ltb}
 use lib.ListN.{length, get_or, drop, length-append, length-drop}
 use lib.Seq.{drop_at, take-append-le, drop-append-le}
 use borrow.Author.Tests.{le-leb, lt-ltb, eq-eqb, ne_eqb}
+use Rattle.std.specs.Prelude.{Some, None}
 use Rattle.laws.specs.Bytes.{big_endian, same_bytes}
 use Rattle.laws.proofs.Flags.{or_left, or_right, fails}
 use Rattle.laws.proofs.Same.{same_refl, differ_same}
@@ -21,7 +22,7 @@ use Rattle.wire.specs.Signing.{request_tag, key_proof, derived_key, recovery_key
 use Rattle.wire.specs.Shape.{Request, size_legal, one_of, legal_sizes}
 use Rattle.key_blocks.specs.KeyBlocks.{decrypted_key, encrypted_key}
 use Rattle.unit.specs.declared.TagUnit.{TagUnit}
-use Rattle.unit.specs.declared.Owner.{Owner}
+use Rattle.unit.specs.Types.{Owner}
 use Rattle.unit.specs.declared.Sound.{Sound}
 use Rattle.unit.specs.declared.Protection.{Protection}
 use Rattle.unit.specs.WellFormed.{well_formed, held_keys, owner_key}
@@ -165,7 +166,7 @@ unfolding decrypted_key
 awaits u key C right (p, o, k) =
     let l = lines u right in
     let held : p < u.accounts.count = owner_held_lem l p o in
-    let first : (q : ℕ) → u.accounts.owner ≡ Owner.Place q → q ≡ p = λ q e. ap place_in (sym e ∙ o) in
+    let first : (q : ℕ) → u.accounts.owner ≡ Some q → q ≡ p = λ q e. ap place_in (sym e ∙ o) in
     record {
       nonce_spent = spends u _ refl;
       waiting_is = refl;
@@ -175,13 +176,13 @@ awaits u key C right (p, o, k) =
       owner_first =
           subst (λ (x : List ℕ). (key_used x u.accounts).owner ≡ owner_once_first p u.accounts.owner) k (used_owner u l p held)
           ∙ ap (owner_once_first p) o
-          ∙ ap (λ (b : Bool). Owner.Place (cond b 0 (cond (ltb p p) (p + 1) p))) (eq-eqb p p refl);
+          ∙ ap (λ (b : Bool). Some (cond b 0 (cond (ltb p p) (p + 1) p))) (eq-eqb p p refl);
       rest = (refl, refl, tt, tt, refl, tt, refl, refl, refl, refl, refl, refl);
     }
   where
     place_in : Owner → ℕ
-    place_in Owner.Nobody = 0
-    place_in (Owner.Place q) = q
+    place_in None = 0
+    place_in (Some q) = q
 
 two_blocks : (key C more : List ℕ) → length C ≡ 32 → decrypted_key key (C ++ more) ≡ decrypted_key key C
 unfolding decrypted_key

@@ -9,6 +9,7 @@ use lib.Dec.{eqb, ltb}
 use lib.IntN.{ℤ, pos, negsuc}
 use lib.ListN.{length, get_or, replicate}
 use borrow.Author.Tests.{le-leb, lt-leb, lt-ltb, le-ltb, eq-eqb, ne_eqb, eqb-true, eqb-false}
+use Rattle.std.specs.Prelude.{Some, None}
 use Rattle.laws.specs.Answer.{gives}
 use Rattle.laws.specs.Bytes.{big_endian}
 use Rattle.laws.proofs.Flags.{and_fails_right, both}
@@ -18,7 +19,7 @@ use Rattle.tables.proofs.Rows.{among_place}
 use Rattle.wire.specs.Signing.{derived_key, answer_tag, signed, ring_notice}
 use Rattle.unit.specs.declared.TagUnit.{TagUnit}
 use Rattle.unit.specs.declared.Clock.{Clock}
-use Rattle.unit.specs.declared.Owner.{Owner}
+use Rattle.unit.specs.Types.{Owner}
 use Rattle.unit.specs.declared.Sound.{Sound}
 use Rattle.unit.specs.WellFormed.{power_legal, settings_legal, well_formed, held_keys}
 use Rattle.unit.specs.Change.{fresh, with_clock, with_pairing, with_accounts, with_sound, with_consent}
@@ -144,9 +145,9 @@ module _ (u : TagUnit) (room : ℕ) (key : List ℕ) (right : well_formed u ≡ 
         not_the_owner = λ owner. arrives 8 (rw (test, owner));
       })
     where
-      last_place : (o : Owner) → (o ≡ Owner.Place 9 → ⊥) → least_used o ≡ 9
-      last_place Owner.Nobody h = refl
-      last_place (Owner.Place p) h = rw (ne_eqb p 9 (λ e. h (ap Owner.Place e)))
+      last_place : (o : Owner) → (o ≡ Some 9 → ⊥) → least_used o ≡ 9
+      last_place None h = refl
+      last_place (Some p) h = rw (ne_eqb p 9 (λ e. h (ap Some e)))
 
 -- The disconnect, with a key that waits and without
 brings_it_in : (u : TagUnit) (room : ℕ) → well_formed u ≡ true → u.waiting.held ≡ true → Serves (calls disconnect room) u [] (BroughtIn u)

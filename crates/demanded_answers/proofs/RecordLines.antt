@@ -12,6 +12,7 @@ use lib.Seq.{get_or-drop}
 use lib.IntN.{ℤ, pos, negsuc, neg_ℤ}
 use lib.Signed.{◌≤ℤ◌}
 use borrow.Author.Tests.{eqb-true, eq-eqb, lt-ltb, ltb-true, ltb-false, leb-true, le-leb, not-true}
+use Rattle.std.specs.Prelude.{Some, None}
 use Rattle.laws.specs.Bytes.{all_zero, same_bytes}
 use Rattle.laws.proofs.Flags.{true_or_false, and_left, and_right, both, or_cases, or_left, fails, clash}
 use Rattle.laws.proofs.Same.{same_equal}
@@ -20,7 +21,7 @@ use Rattle.tables.proofs.Rows.{row_at, among_place}
 use Rattle.unit.specs.Ringable.{inside}
 use Rattle.unit.specs.WellFormed.{power_legal, held_keys, place_legal, owner_legal, owned, identity_legal, sound_legal, protection_legal}
 use Rattle.unit.specs.declared.TagUnit.{TagUnit}
-use Rattle.unit.specs.declared.Owner.{Owner}
+use Rattle.unit.specs.Types.{Owner}
 use Rattle.unit.specs.declared.Identity.{Identity}
 use Rattle.unit.specs.declared.Sound.{Sound}
 use Rattle.unit.specs.declared.Protection.{Protection}
@@ -108,7 +109,7 @@ power_legal_lem (negsuc n) least most = le-leb n 99 (leb→le n 99 least.le)
 
 -- From the tests to the facts
 module _ (u : TagUnit) (l : Lines u) where
-  not_nobody : owned u.accounts.owner ≡ true → u.accounts.owner ≡ Owner.Nobody → ⊥
+  not_nobody : owned u.accounts.owner ≡ true → u.accounts.owner ≡ None → ⊥
   not_nobody h e = false≢true (rw e at h)
 
   keys_differ : (i j : ℕ) → i < j → j < u.accounts.count → key_at_place u i ≡ key_at_place u j → ⊥
@@ -172,20 +173,20 @@ module _ (u : TagUnit) (l : Lines u) where
 -- And back
 module _ (u : TagUnit) (l : RecordLines u) where
   owner_legal_lem : (o : Owner) → u.accounts.owner ≡ o → place_legal o u.accounts.count ≡ true
-  owner_legal_lem Owner.Nobody e = refl
-  owner_legal_lem (Owner.Place p) e = lt-ltb p u.accounts.count (l.owner_held p e)
+  owner_legal_lem None e = refl
+  owner_legal_lem (Some p) e = lt-ltb p u.accounts.count (l.owner_held p e)
 
-  owned_by : (o : Owner) → (o ≡ Owner.Nobody → ⊥) → owned o ≡ true
-  owned_by Owner.Nobody h = absurd (h refl)
-  owned_by (Owner.Place p) h = refl
+  owned_by : (o : Owner) → (o ≡ None → ⊥) → owned o ≡ true
+  owned_by None h = absurd (h refl)
+  owned_by (Some p) h = refl
 
   -- the key in force and the one that waits
-  identity_legal_lem : (k : Identity) → (k.held ≡ true → u.accounts.owner ≡ Owner.Nobody → ⊥) → (k.held ≡ false → Zeros k.bytes)
+  identity_legal_lem : (k : Identity) → (k.held ≡ true → u.accounts.owner ≡ None → ⊥) → (k.held ≡ false → Zeros k.bytes)
       → identity_legal k u.accounts.owner ≡ true
   unfolding identity_legal
   identity_legal_lem k some none = go k.held some none
     where
-      go : (b : Bool) → (b ≡ true → u.accounts.owner ≡ Owner.Nobody → ⊥) → (b ≡ false → Zeros k.bytes)
+      go : (b : Bool) → (b ≡ true → u.accounts.owner ≡ None → ⊥) → (b ≡ false → Zeros k.bytes)
           → (b && owned u.accounts.owner) || (not b && all_zero k.bytes) ≡ true
       go true h z = or_left false (owned_by u.accounts.owner (h refl))
       go false h z = zeros_all _ (z refl)

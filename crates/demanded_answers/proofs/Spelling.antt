@@ -13,6 +13,7 @@ use lib.Dec.{eqb, ltb}
 use lib.IntN.{ℤ, pos, negsuc}
 use lib.ListN.{get_or}
 use borrow.Author.Tests.{le-leb, eq-eqb, ne_eqb, eqb-true}
+use Rattle.std.specs.Prelude.{Some, None}
 use Rattle.laws.specs.Bytes.{big_endian, number, number_after, same_bytes}
 use Rattle.laws.proofs.Flags.{or_right, agree}
 use Rattle.laws.proofs.Same.{same_refl, same_equal, equal_same}
@@ -21,7 +22,7 @@ use Rattle.tables.proofs.Rows.{row_at, place_at}
 use Rattle.unit.specs.declared.TagUnit.{TagUnit}
 use Rattle.unit.specs.declared.Settings.{Settings}
 use Rattle.unit.specs.declared.Accounts.{Accounts}
-use Rattle.unit.specs.declared.Owner.{Owner}
+use Rattle.unit.specs.Types.{Owner}
 use Rattle.unit.specs.declared.Sound.{Sound}
 use Rattle.unit.specs.Ringable.{inside}
 use Rattle.unit.specs.WellFormed.{well_formed, held_keys, owner_key}
@@ -115,8 +116,8 @@ owner_at u key right (p, o, k) = rw (o, key_at u p (owner_held_lem (lines u righ
 
 -- where the owner stands once a key is first
 pub owner_moves : (p : ℕ) (o : Owner) → followed p o ≡ owner_once_first p o
-owner_moves p Owner.Nobody = refl
-owner_moves p (Owner.Place q) = ap (λ (n : ℕ). Owner.Place (cond (eqb q p) 0 (cond (ltb q p) n q))) (sym (add-one q))
+owner_moves p None = refl
+owner_moves p (Some q) = ap (λ (n : ℕ). Some (cond (eqb q p) 0 (cond (ltb q p) n q))) (sym (add-one q))
 
 -- The key used in 0x01 is the one at place p: its place is p, so with no owner it is p's, and another owner's place has another key
 module _ (u : TagUnit) (l : Lines u) (p : ℕ) (held : p < u.accounts.count) where
@@ -134,22 +135,22 @@ module _ (u : TagUnit) (l : Lines u) (p : ℕ) (held : p < u.accounts.count) whe
       rw (here, keys, at, past)
 
   claims : (o : Owner) → u.accounts.owner ≡ o → (claimed o (key_at_place u p) u.accounts).owner ≡ owner_then o p
-  claims Owner.Nobody e = ap Owner.Place key_place
-  claims (Owner.Place q) e = e
+  claims None e = ap Some key_place
+  claims (Some q) e = e
 
   claimed_held : (o : Owner) → held_keys (claimed o (key_at_place u p) u.accounts) ≡ held_keys u.accounts
   unfolding held_keys
-  claimed_held Owner.Nobody = refl
-  claimed_held (Owner.Place q) = refl
+  claimed_held None = refl
+  claimed_held (Some q) = refl
 
   claimed_table : (o : Owner) → (claimed o (key_at_place u p) u.accounts).keys ≡ u.accounts.keys
-  claimed_table Owner.Nobody = refl
-  claimed_table (Owner.Place q) = refl
+  claimed_table None = refl
+  claimed_table (Some q) = refl
 
   -- the accounts of 0x01: the key is the owner where there was none, and first
   pub claimed_count : (o : Owner) → (claimed o (key_at_place u p) u.accounts).count ≡ u.accounts.count
-  claimed_count Owner.Nobody = refl
-  claimed_count (Owner.Place q) = refl
+  claimed_count None = refl
+  claimed_count (Some q) = refl
 
   pub claimed_keys : (o : Owner) → (key_used (key_at_place u p) (claimed o (key_at_place u p) u.accounts)).keys ≡ brought_first u p
   claimed_keys o = first_keys (claimed o (key_at_place u p) u.accounts) (claimed_held o) (claimed_table o)
@@ -175,8 +176,8 @@ same_place u l p q h k =
 pub owner_bit_lem : (u : TagUnit) → Lines u → (p : ℕ) → p < u.accounts.count → (o : Owner) → u.accounts.owner ≡ o
     → cond (is_key (owner_key (claimed o (key_at_place u p) u.accounts)) (key_at_place u p)) 2 0 ≡ owner_bit o p
 unfolding owner_key held_keys
-owner_bit_lem u l p h Owner.Nobody e = rw (key_place u l p h, key_at u p h, same_refl (key_at_place u p))
-owner_bit_lem u l p h (Owner.Place q) e =
+owner_bit_lem u l p h None e = rw (key_place u l p h, key_at u p h, same_refl (key_at_place u p))
+owner_bit_lem u l p h (Some q) e =
     let there = owner_held_lem l q e in
     rw (e, key_at u q there, same_place u l p q h there)
 

@@ -1,11 +1,11 @@
 -- Demand 2: "Every answer, notification, frame and later state is what the published v1.3 rules and our house choices define, for every
 -- write, read .." Here for the read and for each of the nine IDs: rightly built, on a unit that permits it, it is served with these bytes and
 -- leaves this unit, whichever parts are in reach, in literal numbers over SHA256, HMAC and AES128 alone. Without this a tag that always refuses would keep every promise.
-use Rattle.std.specs.Prelude.{ℕ, ◌+◌, ◌*◌, ◌-◌, ◌/◌, ◌%◌, ◌≤◌, ◌<◌, ◌≡◌, true, false, cond, not, ◌&&◌, List, [], ◌∷◌, ◌++◌, ◌⊎◌, eqb, ltb, ℤ, pos, negsuc, length, take, drop, get_or, replicate}
+use Rattle.std.specs.Prelude.{ℕ, ◌+◌, ◌*◌, ◌-◌, ◌/◌, ◌%◌, ◌≤◌, ◌<◌, ◌≡◌, true, false, cond, not, ◌&&◌, List, [], ◌∷◌, ◌++◌, ◌⊎◌, eqb, ltb, ℤ, pos, negsuc, length, take, drop, get_or, replicate, Some, None}
 use Rattle.laws.specs.Answer.{gives}
 use Rattle.primitives.specs.Standards.{AES128, InvAES128}
 use Rattle.unit.specs.declared.TagUnit.{TagUnit}
-use Rattle.unit.specs.declared.Owner.{Owner}
+use Rattle.unit.specs.Types.{Owner}
 use Rattle.unit.specs.declared.Sound.{Sound}
 use Rattle.unit.specs.declared.Protection.{Protection}
 use Rattle.unit.specs.WellFormed.{well_formed}
@@ -75,12 +75,12 @@ parameter_bytes u =
 -- "bit 0x01 identity key held, bit 0x02 the key used is owner": the key at place p. "0x01 with no owner makes that key the owner (house),
 -- and its answer already shows it as owner"
 abbrev pub owner_bit : Owner → ℕ → ℕ
-owner_bit Owner.Nobody p = 0x02
-owner_bit (Owner.Place q) p = cond (eqb q p) 0x02 0x00
+owner_bit None p = 0x02
+owner_bit (Some q) p = cond (eqb q p) 0x02 0x00
 
 abbrev pub owner_then : Owner → ℕ → Owner
-owner_then Owner.Nobody p = Owner.Place p
-owner_then (Owner.Place q) p = Owner.Place q
+owner_then None p = Some p
+owner_then (Some q) p = Some q
 
 -- "0x01 omits the identifier .. only with no key or if r is 0 before the cut"
 abbrev pub standing : TagUnit → List ℕ
@@ -95,8 +95,8 @@ abbrev pub place_once_first : ℕ → ℕ → ℕ
 place_once_first p q = cond (eqb q p) 0 (cond (ltb q p) (q + 1) q)
 
 abbrev pub owner_once_first : ℕ → Owner → Owner
-owner_once_first p Owner.Nobody = Owner.Nobody
-owner_once_first p (Owner.Place q) = Owner.Place (place_once_first p q)
+owner_once_first p None = None
+owner_once_first p (Some q) = Some (place_once_first p q)
 
 -- "least recently used in an accepted 0x00, 0x01 or 0x02": what 0x00 leaves
 pub record KeyUsed (p : ℕ) (u v : TagUnit) : Type 0 where
@@ -128,15 +128,15 @@ pub record Awaits (key C : List ℕ) (u v : TagUnit) : Type 0 where
   pub nonce_spent : NonceSpent u v
   pub waiting_is : v.waiting ≡ record { held = true; bytes = InvAES128 key (take 16 C) ++ InvAES128 key (take 16 (drop 16 C)) }
   pub count : v.accounts.count ≡ u.accounts.count
-  pub keys : (p : ℕ) → u.accounts.owner ≡ Owner.Place p → v.accounts.keys ≡ brought_first u p
-  pub owner_first : v.accounts.owner ≡ Owner.Place 0
+  pub keys : (p : ℕ) → u.accounts.owner ≡ Some p → v.accounts.keys ≡ brought_first u p
+  pub owner_first : v.accounts.owner ≡ Some 0
   pub rest : AllBut (nonce ∷ accounts ∷ waiting ∷ []) u v
 
 -- "The unit becomes fresh, keeping settings, clock, last nonce (spent), battery and pairing (house)"; "Fresh: no keys, nonce, sound,
 -- protection, consent, pairing .."; "0x03 drops both", the key in force and the waiting one
 pub record Cleared (u v : TagUnit) : Type 0 where
   pub nonce_spent : NonceSpent u v
-  pub keyless : v.accounts ≡ record { count = 0; owner = Owner.Nobody; keys = replicate 160 0 }
+  pub keyless : v.accounts ≡ record { count = 0; owner = None; keys = replicate 160 0 }
   pub unset : v.identity ≡ record { held = false; bytes = replicate 32 0 }
   pub none_waits : NoneWaits v
   pub silent : Silent v

@@ -1,12 +1,11 @@
 -- Demand 2, what is no read and no write: a new unit, the button, pairing, battery, account keys, the disconnect, the
 -- frame and one tenth of time. Each gives these bytes and changes these parts of a well-formed unit, in literal numbers, and no other part.
 -- More tenths than one are that many single tenths by demand 3.
-use Rattle.std.specs.Prelude.{ℕ, ◌+◌, ◌*◌, ◌-◌, ◌/◌, ◌%◌, ◌≤◌, ◌<◌, ◌≡◌, Bool, true, false, List, [], ◌∷◌, ◌++◌, ℤ, pos, negsuc, length, take, drop, get_or, replicate}
+use Rattle.std.specs.Prelude.{ℕ, ◌+◌, ◌*◌, ◌-◌, ◌/◌, ◌%◌, ◌≤◌, ◌<◌, ◌≡◌, Bool, true, false, List, [], ◌∷◌, ◌++◌, ℤ, pos, negsuc, length, take, drop, get_or, replicate, Some, None}
 use Rattle.std.specs.Int.Bits.{bit_xor}
 use Rattle.laws.specs.Answer.{gives}
 use Rattle.primitives.specs.Standards.{SHA256}
 use Rattle.unit.specs.declared.TagUnit.{TagUnit}
-use Rattle.unit.specs.declared.Owner.{Owner}
 use Rattle.unit.specs.declared.Sound.{Sound}
 use Rattle.unit.specs.declared.Protection.{Protection}
 use Rattle.unit.specs.WellFormed.{well_formed}
@@ -28,7 +27,7 @@ pub record Fresh (power : ℤ) (components selectable : ℕ) (v : TagUnit) : Typ
   pub settings_are : v.settings ≡ record { power = power; components = components; selectable = selectable }
   pub clock_is : v.clock ≡ record { seconds = 0; tenth = 0 }
   pub no_nonces : v.nonces ≡ record { count = 0; live = false; newest = replicate 8 0; earlier = replicate 120 0 }
-  pub no_accounts : v.accounts ≡ record { count = 0; owner = Owner.Nobody; keys = replicate 160 0 }
+  pub no_accounts : v.accounts ≡ record { count = 0; owner = None; keys = replicate 160 0 }
   pub no_identity : v.identity ≡ record { held = false; bytes = replicate 32 0 }
   pub none_waits : NoneWaits v
   pub silent : Silent v
@@ -69,8 +68,8 @@ pub record Keeps (key : List ℕ) (u v : TagUnit) : Type 0 where
 -- without, that of the last, or of the one before it where the last is the owner's
 pub record Replaces (key : List ℕ) (u v : TagUnit) : Type 0 where
   pub count : v.accounts.count ≡ 10
-  pub last : (u.accounts.owner ≡ Owner.Place 9 → ⊥) → Arrives key 9 u v
-  pub not_the_owner : u.accounts.owner ≡ Owner.Place 9 → Arrives key 8 u v
+  pub last : (u.accounts.owner ≡ Some 9 → ⊥) → Arrives key 9 u v
+  pub not_the_owner : u.accounts.owner ≡ Some 9 → Arrives key 8 u v
 
 -- The new key "takes effect right after the connection ends"; "Sound ends .. at a disconnect that brings a waiting key in"
 pub record BroughtIn (u v : TagUnit) : Type 0 where

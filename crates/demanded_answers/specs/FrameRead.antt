@@ -1,10 +1,10 @@
 -- 2026-02: the reader matches what the tag sends. "Every frame that the tag sends reads back to what it was made from, and a frame that reads is
 -- rebuilt byte for byte."
+use Rattle.std.specs.Prelude.{Option}
 use Rattle.std.specs.Prelude.{ℕ, ◌≡◌, Bool, true, false, List}
 use Rattle.laws.specs.Answer.{gives}
 use Rattle.unit.specs.declared.TagUnit.{TagUnit}
 use Rattle.unit.specs.declared.Protection.{Protection}
-use Rattle.frame.specs.declared.Flags.{Flags}
 use Rattle.frame_reader.specs.Reader.{Parts, reads, wrong_byte, read_frame}
 use Rattle.frame_opener.specs.Opener.{wrong_size, read_frame_with_r}
 use Rattle.frame_laws.specs.ReadBack.{ReadBack, ReadBackWithR}
@@ -18,7 +18,7 @@ is_protected (Protection.On skip) = true
 
 -- a text reads to the identifier and the protection of a unit, and with its r to its battery level; the flags byte is the same both times
 pub record ReadsToUnit (u : TagUnit) (text : List ℕ) : Type 0 where
-  pub flags : Flags
+  pub flags : Option ℕ
   pub read : read_frame 20 text ≡ reads (record { identifier = identifier_of u; protected = is_protected u.protection; flags = flags })
   pub read_with_r : read_frame_with_r 20 (cut_r u) text
       ≡ reads

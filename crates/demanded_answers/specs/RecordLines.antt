@@ -1,9 +1,8 @@
 -- "What a unit holds", line by line and in literal numbers: a record is well formed exactly if it breaks none of these lines. What does not
 -- stand here is allowed: a ring without a last nonce or with another, consent without a key.
 -- (That seconds have 32 bits, that flags are 0 or 1 and how long each room is, the types of the record say.)
-use Rattle.std.specs.Prelude.{ℕ, ◌*◌, ◌/◌, ◌%◌, ◌^◌, ◌≤◌, ◌<◌, ◌≡◌, Bool, true, false, List, ◌++◌, length, get_or, pos, neg_ℤ, ◌≤ℤ◌}
+use Rattle.std.specs.Prelude.{ℕ, ◌*◌, ◌/◌, ◌%◌, ◌^◌, ◌≤◌, ◌<◌, ◌≡◌, Bool, true, false, List, ◌++◌, length, get_or, pos, neg_ℤ, ◌≤ℤ◌, Some, None}
 use Rattle.unit.specs.declared.TagUnit.{TagUnit}
-use Rattle.unit.specs.declared.Owner.{Owner}
 use Rattle.unit.specs.declared.Sound.{Sound}
 use Rattle.unit.specs.declared.Protection.{Protection}
 use Rattle.unit.specs.WellFormed.{well_formed}
@@ -38,12 +37,12 @@ pub record RecordLines (u : TagUnit) : Type 0 where
   pub no_two_equal : (i j : ℕ) → i < j → j < u.accounts.count → key_at_place u i ≡ key_at_place u j → ⊥
   pub no_other_keys : (i : ℕ) → 16 * u.accounts.count ≤ i → get_or u.accounts.keys i 0 ≡ 0
   -- "perhaps an owner among them": "an owner that isn't held" is not well formed
-  pub owner_held : (p : ℕ) → u.accounts.owner ≡ Owner.Place p → p < u.accounts.count
+  pub owner_held : (p : ℕ) → u.accounts.owner ≡ Some p → p < u.accounts.count
   -- "perhaps a 32-byte identity key (then there is an owner)"
-  pub key_owned : u.identity.held ≡ true → u.accounts.owner ≡ Owner.Nobody → ⊥
+  pub key_owned : u.identity.held ≡ true → u.accounts.owner ≡ None → ⊥
   pub no_key : u.identity.held ≡ false → Zeros u.identity.bytes
   -- "A waiting key without an owner isn't well formed." Without a key in force it is, and so is one that equals it
-  pub waiting_owned : u.waiting.held ≡ true → u.accounts.owner ≡ Owner.Nobody → ⊥
+  pub waiting_owned : u.waiting.held ≡ true → u.accounts.owner ≡ None → ⊥
   pub none_waits : u.waiting.held ≡ false → Zeros u.waiting.bytes
   -- "A well-formed record holds up to 16, all distinct"; "live without a nonce" is not well formed
   pub newest_room : length u.nonces.newest ≡ 8

@@ -1,9 +1,8 @@
 -- What phones send and see, in literal numbers over SHA256 and HMAC alone, and what of a unit stays: the words in which the statements here
 -- hold the definitions of the crates below. So none of those definitions is cited, and one that is wrong there is refused here.
-use Rattle.std.specs.Prelude.{ℕ, ◌+◌, ◌*◌, ◌/◌, ◌%◌, ◌^◌, ◌<◌, ◌≤◌, ◌≡◌, Bool, true, false, ◌||◌, List, [], ◌∷◌, ◌++◌, eqb, length, take, drop}
+use Rattle.std.specs.Prelude.{ℕ, ◌+◌, ◌*◌, ◌/◌, ◌%◌, ◌^◌, ◌<◌, ◌≤◌, ◌≡◌, Bool, true, false, ◌||◌, List, [], ◌∷◌, ◌++◌, eqb, length, take, drop, Some}
 use Rattle.primitives.specs.Standards.{SHA256, HMAC}
 use Rattle.unit.specs.declared.TagUnit.{TagUnit}
-use Rattle.unit.specs.declared.Owner.{Owner}
 
 -- "Recovery, ring and protection keys are the first 8 bytes of SHA256(identity key, then 0x01, 0x02, 0x03 respectively)"
 abbrev pub key_from : ℕ → List ℕ → List ℕ
@@ -42,7 +41,7 @@ abbrev pub key_at_place : TagUnit → ℕ → List ℕ
 key_at_place u p = take 16 (drop (16 * p) u.accounts.keys)
 
 abbrev pub OwnedWith : TagUnit → List ℕ → Type 0
-OwnedWith u key = (p : ℕ) × (u.accounts.owner ≡ Owner.Place p) × (key_at_place u p ≡ key)
+OwnedWith u key = (p : ℕ) × (u.accounts.owner ≡ Some p) × (key_at_place u p ≡ key)
 
 -- the issued nonce at a place, 8 bytes each, the newest first
 abbrev pub nonce_at_place : TagUnit → ℕ → List ℕ

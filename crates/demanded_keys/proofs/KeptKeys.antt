@@ -10,13 +10,14 @@ use native.Mathlib.Omega.{arith}
 use lib.Dec.{eqb, ltb}
 use lib.ListN.{length, get_or}
 use borrow.Author.Tests.{eqb-true, eqb-false, ltb-true, ltb-false}
+use Rattle.std.specs.Prelude.{Some, None}
 use Rattle.laws.specs.Bytes.{same_bytes}
 use Rattle.laws.proofs.Flags.{true_or_false, fails, both, clash}
 use Rattle.laws.proofs.Same.{same_equal}
 use Rattle.tables.specs.Rows.{among, distinct, place_of}
 use Rattle.tables.proofs.Rows.{others, among_place}
 use Rattle.unit.specs.declared.Accounts.{Accounts}
-use Rattle.unit.specs.declared.Owner.{Owner}
+use Rattle.unit.specs.Types.{Owner}
 use Rattle.unit.specs.WellFormed.{held_keys, row_of, owner_key, owner_legal}
 use Rattle.unit.proofs.Lines.{AccountsLines, held_count}
 use Rattle.account_keys.specs.Order.{key_used, key_added, least_used}
@@ -65,7 +66,7 @@ room_or_full n most = go (true_or_false (ltb n 10))
     go (inr e) = let full : 10 ≤ n = ltb-false n 10 e in inr (omega arith)
 
 module _ (a : Accounts) (l : AccountsLines a) (legal : owner_legal a ≡ true) where
-  held_place : (p : ℕ) → a.owner ≡ Owner.Place p → p < a.count
+  held_place : (p : ℕ) → a.owner ≡ Some p → p < a.count
   unfolding owner_legal
   held_place p e = ltb-true p a.count (rw e at legal)
 
@@ -84,8 +85,8 @@ module _ (a : Accounts) (l : AccountsLines a) (legal : owner_legal a ≡ true) w
   -- and one that makes its key the owner where there was none
   claimed_owned : (o : Owner) (k : List ℕ) → a.owner ≡ o → among k (held_keys a) ≡ true → owner_key (claimed o k a) ≡ owner_after (owner_key a) k
   unfolding owner_key held_keys
-  claimed_owned Owner.Nobody k e h = rw e (ap some (place_found k (held_keys a) h).1)
-  claimed_owned (Owner.Place p) k e h = rw e
+  claimed_owned None k e h = rw e (ap some (place_found k (held_keys a) h).1)
+  claimed_owned (Some p) k e h = rw e
 
   pub keeps_claimed : {o : Option (List ℕ)} {keys : List (List ℕ)} (k : List ℕ) → Keeps a o keys → among k (held_keys a) ≡ true
       → Keeps (key_used k (owned_by k a)) (owner_after o k) (k ∷ without k keys)
@@ -108,15 +109,15 @@ module _ (a : Accounts) (l : AccountsLines a) (legal : owner_legal a ≡ true) w
 
   -- An arrival: where there is room all are still held
   room_kept : (o : Owner) → a.owner ≡ o → a.count < 10 → kept_but_one (row_of o (held_keys a)) (held_keys a) ≡ held_keys a
-  room_kept Owner.Nobody e few = first_all none 9 (held_keys a) (omega (arith, held_count a))
-  room_kept (Owner.Place p) e few =
+  room_kept None e few = first_all none 9 (held_keys a) (omega (arith, held_count a))
+  room_kept (Some p) e few =
       let below : p < a.count = held_place p e in
       room_all 8 (held_keys a) p (omega (arith, held_count a)) (omega (arith, held_count a)) l.different
 
   -- and of ten the last that is not the owner's goes
   full_kept : (o : Owner) → a.owner ≡ o → a.count ≡ 10 → kept_but_one (row_of o (held_keys a)) (held_keys a) ≡ others (least_used o) (held_keys a)
-  full_kept Owner.Nobody e full = first_front 9 (held_keys a) (omega (arith, held_count a))
-  full_kept (Owner.Place p) e full = go (true_or_false (eqb p 9))
+  full_kept None e full = first_front 9 (held_keys a) (omega (arith, held_count a))
+  full_kept (Some p) e full = go (true_or_false (eqb p 9))
     where
       go : (eqb p 9 ≡ true) ⊎ (eqb p 9 ≡ false) → first_others 8 (some (get_or (held_keys a) p [])) (held_keys a) ≡ others (cond (eqb p 9) 8 9) (held_keys a)
       go (inl t) =
@@ -129,8 +130,8 @@ module _ (a : Accounts) (l : AccountsLines a) (legal : owner_legal a ≡ true) w
 
   -- the owner's key is held, so a key that is not held is not the owner's
   not_owners : (o : Owner) (k : List ℕ) → a.owner ≡ o → among k (held_keys a) ≡ false → is_owner (row_of o (held_keys a)) k ≡ false
-  not_owners Owner.Nobody k e new = refl
-  not_owners (Owner.Place p) k e new =
+  not_owners None k e new = refl
+  not_owners (Some p) k e new =
       let below : p < a.count = held_place p e in
       fails (same_bytes (get_or (held_keys a) p []) k)
       (λ s.

@@ -8,13 +8,14 @@ use mathlib.Core.Option.{some}
 use native.Mathlib.Omega.{arith}
 use lib.ListN.{length, get_or, take, drop, replicate}
 use borrow.Author.Tests.{ltb-true}
+use Rattle.std.specs.Prelude.{Some, None}
 use Rattle.sizes.specs.Sizes.{account_key_size}
 use Rattle.tables.specs.Rows.{place_of}
 use Rattle.tables.proofs.Rows.{row_at}
 use Rattle.unit.specs.declared.TagUnit.{TagUnit}
 use Rattle.unit.specs.declared.Settings.{Settings}
 use Rattle.unit.specs.declared.Accounts.{Accounts}
-use Rattle.unit.specs.declared.Owner.{Owner}
+use Rattle.unit.specs.Types.{Owner}
 use Rattle.unit.specs.WellFormed.{well_formed, held_keys, row_of, owner_key, owner_legal, place_legal}
 use Rattle.unit.specs.Change.{fresh}
 use Rattle.unit.specs.Outcome.{Outcome}
@@ -91,8 +92,8 @@ history_filled (a ∷ h) u b s = history_filled h (step a u).unit b.1 (step_fill
 row_sixteen : (o : Owner) (a : Accounts) → AccountsLines a → Bytes a.keys → place_legal o a.count ≡ true → (key : List ℕ)
     → row_of o (held_keys a) ≡ some key → Sixteen key
 unfolding held_keys
-row_sixteen Owner.Nobody a l b legal key e = let z : ◌≡◌ {A = ℕ} 0 1 = cc in absurd (omega arith)
-row_sixteen (Owner.Place p) a l b legal key e =
+row_sixteen None a l b legal key e = let z : ◌≡◌ {A = ℕ} 0 1 = cc in absurd (omega arith)
+row_sixteen (Some p) a l b legal key e =
     let below : p < a.count = ltb-true p a.count legal in
     let is : get_or (held_keys a) p [] ≡ key = cc in
     let row = row_at account_key_size a.count a.keys p below in

@@ -7,6 +7,7 @@ use mathlib.Core.List.{List, [], ◌∷◌, ◌++◌, append-nil, append_assoc}
 use mathlib.Core.Option.{Option, some, none}
 use native.Mathlib.Omega.{arith}
 use lib.ListN.{length, get_or}
+use Rattle.std.specs.Prelude.{Some, None}
 use Rattle.laws.proofs.Flags.{clash}
 use Rattle.laws.proofs.Same.{same_equal, equal_same, same_differ, differ_same}
 use Rattle.tables.specs.Rows.{among, distinct, rows}
@@ -16,7 +17,7 @@ use Rattle.wire.specs.Shape.{parsed}
 use Rattle.unit.specs.declared.TagUnit.{TagUnit}
 use Rattle.unit.specs.declared.Settings.{Settings}
 use Rattle.unit.specs.declared.Accounts.{Accounts}
-use Rattle.unit.specs.declared.Owner.{Owner}
+use Rattle.unit.specs.Types.{Owner}
 use Rattle.unit.specs.Change.{fresh, spent}
 use Rattle.unit.specs.Outcome.{Outcome}
 use Rattle.unit.specs.WellFormed.{well_formed, held_keys, row_of, owner_key}
@@ -281,9 +282,9 @@ unfolding owner_key
 owner_is_lem u w (some key) e = owned_with u w key e
 owner_is_lem u w none e = go u.accounts.owner refl e
   where
-    go : (o : Owner) → u.accounts.owner ≡ o → row_of o (held_keys u.accounts) ≡ none → u.accounts.owner ≡ Owner.Nobody
-    go Owner.Nobody is h = is
-    go (Owner.Place p) is h = let z : ◌≡◌ {A = ℕ} 0 1 = cc in absurd (omega arith)
+    go : (o : Owner) → u.accounts.owner ≡ o → row_of o (held_keys u.accounts) ≡ none → u.accounts.owner ≡ None
+    go None is h = is
+    go (Some p) is h = let z : ◌≡◌ {A = ℕ} 0 1 = cc in absurd (omega arith)
 
 in_words : (u : TagUnit) → well_formed u ≡ true → {owner : Option (List ℕ)} {keys : List (List ℕ)} → Keeps u.accounts owner keys → Holds owner (kept owner keys) u
 in_words u w {owner} {keys} s =

@@ -9,6 +9,7 @@ use native.Mathlib.Omega.{arith}
 use lib.ListN.{length, get_or, drop, replicate, take}
 use lib.Seq.{take_all, take_at, drop_at}
 use borrow.Author.Tests.{eq-eqb}
+use Rattle.std.specs.Prelude.{Some}
 use Rattle.laws.specs.Answer.{gives}
 use Rattle.laws.proofs.Same.{differ_same, same_refl, same_sym}
 use Rattle.primitives.specs.Standards.{HMAC}
@@ -17,7 +18,6 @@ use Rattle.wire.specs.Signing.{request_tag}
 use Rattle.key_blocks.specs.KeyBlocks.{decrypted_key}
 use Rattle.unit.specs.declared.TagUnit.{TagUnit}
 use Rattle.unit.specs.declared.Settings.{Settings}
-use Rattle.unit.specs.declared.Owner.{Owner}
 use Rattle.tables.specs.Rows.{rows, among, place_of}
 use Rattle.unit.specs.declared.Accounts.{Accounts}
 use Rattle.unit.specs.WellFormed.{settings_legal, well_formed, held_keys}
@@ -96,7 +96,7 @@ module _ (s : Settings) (key C n₁ n₂ n₃ : List ℕ) (g : Given s key C n�
   first = with_nonces (with_issued n₁ keyed.nonces) keyed
 
   abbrev owned : TagUnit
-  owned = with_accounts (with_owner (Owner.Place 0) (key_added key no_accounts)) (spent first)
+  owned = with_accounts (with_owner (Some 0) (key_added key no_accounts)) (spent first)
 
   abbrev second : TagUnit
   second = with_nonces (with_issued n₂ owned.nonces) owned
@@ -146,7 +146,7 @@ module _ (s : Settings) (key C n₁ n₂ n₃ : List ℕ) (g : Given s key C n�
   owned_formed : well_formed owned ≡ true
   owned_formed = owner_kept (spent first) (spent_kept first first_formed) 0 (omega arith)
 
-  owner_first_lem : owned_by key (key_added key no_accounts) ≡ with_owner (Owner.Place 0) (key_added key no_accounts)
+  owner_first_lem : owned_by key (key_added key no_accounts) ≡ with_owner (Some 0) (key_added key no_accounts)
   unfolding place_of
   owner_first_lem = rw (held_key, same_refl key)
 

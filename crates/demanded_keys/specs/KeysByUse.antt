@@ -1,12 +1,11 @@
 -- Ten account keys, and room for the next: "when an eleventh comes, drop the one least recently used in an accepted 0x00, 0x01 or 0x02, but
 -- never the owner. Arrival counts as use; adding a key already held doesn't." Over histories from a fresh unit, by the calls of the history and
 -- not by what the record holds.
-use Rattle.std.specs.Prelude.{ℕ, zero, suc, ◌≤◌, ◌<◌, ◌≡◌, Bool, true, false, cond, List, [], ◌∷◌, ◌++◌, length, get_or, take, drop}
+use Rattle.std.specs.Prelude.{ℕ, zero, suc, ◌≤◌, ◌<◌, ◌≡◌, Bool, true, false, cond, List, [], ◌∷◌, ◌++◌, length, get_or, take, drop, None}
 use Rattle.std.proofs.Math.Option.{Option, some, none}
 use Rattle.laws.specs.Bytes.{same_bytes}
 use Rattle.unit.specs.declared.TagUnit.{TagUnit}
 use Rattle.unit.specs.declared.Settings.{Settings}
-use Rattle.unit.specs.declared.Owner.{Owner}
 use Rattle.unit.specs.Change.{fresh}
 use Rattle.unit.specs.WellFormed.{settings_legal}
 use Rattle.tag.specs.Calls.{Written, write, account_key, Act, calls}
@@ -80,7 +79,7 @@ pub data ByUse (u : TagUnit) : List Act → Option (List ℕ) → List (List ℕ
       → ByUse u (h ++ (a ∷ [])) owner keys
 
 abbrev pub OwnerIs : Option (List ℕ) → TagUnit → Type 0
-OwnerIs none u = u.accounts.owner ≡ Owner.Nobody
+OwnerIs none u = u.accounts.owner ≡ None
 OwnerIs (some key) u = OwnedWith u key
 
 -- the unit holds these keys, in this order, and this is its owner

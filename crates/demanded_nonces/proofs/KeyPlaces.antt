@@ -6,10 +6,11 @@ use mathlib.Core.List.{List, [], ◌∷◌}
 use mathlib.Core.Option.{some}
 use native.Mathlib.Omega.{arith}
 use lib.ListN.{length, get_or, take, drop}
+use Rattle.std.specs.Prelude.{Some, None}
 use Rattle.tables.specs.Rows.{first_that}
 use Rattle.tables.proofs.Rows.{row_at}
 use Rattle.unit.specs.declared.TagUnit.{TagUnit}
-use Rattle.unit.specs.declared.Owner.{Owner}
+use Rattle.unit.specs.Types.{Owner}
 use Rattle.unit.specs.WellFormed.{well_formed, held_keys, row_of, owner_key}
 use Rattle.unit.proofs.Lines.{lines, owner_held_lem}
 use Rattle.demanded_answers.specs.Spelled.{key_at_place, OwnedWith}
@@ -59,8 +60,8 @@ unfolding owner_key
 owned_with u w key e = go u.accounts.owner refl e
   where
     go : (o : Owner) → u.accounts.owner ≡ o → row_of o (held_keys u.accounts) ≡ some key → OwnedWith u key
-    go Owner.Nobody is h = let z : ◌≡◌ {A = ℕ} 0 1 = cc in absurd (omega arith)
-    go (Owner.Place p) is h =
+    go None is h = let z : ◌≡◌ {A = ℕ} 0 1 = cc in absurd (omega arith)
+    go (Some p) is h =
         let row : get_or (held_keys u.accounts) p [] ≡ key = cc in
         (p, is, sym (held_at u p (owner_held_lem (lines u w) p is)) ∙ row)
 

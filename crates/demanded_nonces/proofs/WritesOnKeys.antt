@@ -14,7 +14,6 @@ use Rattle.wire.specs.Signing.{recovery_key, ring_key, protection_key}
 use Rattle.key_blocks.specs.KeyBlocks.{decrypted_key, encrypted_key}
 use Rattle.unit.specs.declared.TagUnit.{TagUnit}
 use Rattle.unit.specs.declared.Accounts.{Accounts}
-use Rattle.unit.specs.declared.Owner.{Owner}
 use Rattle.tables.specs.Rows.{among, place_of}
 use Rattle.unit.specs.WellFormed.{well_formed, held_keys, owner_key}
 use Rattle.unit.proofs.Lines.{lines, held_count}

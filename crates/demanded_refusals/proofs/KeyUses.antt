@@ -7,13 +7,14 @@ use mathlib.Core.Option.{Option, some, none}
 use native.Mathlib.Omega.{arith}
 use lib.ListN.{length, get_or, take, drop, take-append-drop}
 use borrow.Author.Tests.{lt-ltb, le-ltb, ne_eqb}
+use Rattle.std.specs.Prelude.{Some, None}
 use Rattle.sizes.specs.Sizes.{account_key_size}
 use Rattle.tables.specs.Rows.{rows, among, place_of}
 use Rattle.tables.proofs.Rows.{among_place, row_at}
 use Rattle.wire.specs.Shape.{Request}
 use Rattle.unit.specs.declared.TagUnit.{TagUnit}
 use Rattle.unit.specs.declared.Accounts.{Accounts}
-use Rattle.unit.specs.declared.Owner.{Owner}
+use Rattle.unit.specs.Types.{Owner}
 use Rattle.unit.specs.WellFormed.{well_formed, held_keys, owner_legal, row_of, owner_key}
 use Rattle.unit.specs.Change.{with_accounts}
 use Rattle.unit.proofs.Lines.{AccountsLines, lines, held_count, owner_held_lem}
@@ -32,9 +33,9 @@ unfolding used_key
 used_among u q key e = first_among _ (held_keys u.accounts) key e
 
 -- the owner's key is held
-owner_among : (o : Owner) (l : List (List ℕ)) (key : List ℕ) → ((p : ℕ) → o ≡ Owner.Place p → p < length l) → row_of o l ≡ some key → among key l ≡ true
-owner_among Owner.Nobody l key held e = cc
-owner_among (Owner.Place p) l key held e =
+owner_among : (o : Owner) (l : List (List ℕ)) (key : List ℕ) → ((p : ℕ) → o ≡ Some p → p < length l) → row_of o l ≡ some key → among key l ≡ true
+owner_among None l key held e = cc
+owner_among (Some p) l key held e =
     let is : get_or l p [] ≡ key = cc in
     rw is at (among_place l p (held p refl))
 
@@ -46,27 +47,27 @@ owner_held_key u w key e =
 -- The accounts with an owner claimed: the same keys
 pub claimed_held : (o : Owner) (key : List ℕ) (a : Accounts) → held_keys (claimed o key a) ≡ held_keys a
 unfolding held_keys
-claimed_held Owner.Nobody key a = refl
-claimed_held (Owner.Place p) key a = refl
+claimed_held None key a = refl
+claimed_held (Some p) key a = refl
 
 pub claimed_lines : (o : Owner) (key : List ℕ) (a : Accounts) → AccountsLines a → AccountsLines (claimed o key a)
 unfolding held_keys
-claimed_lines Owner.Nobody key a l = record { room = l.room; count = l.count; different = l.different; spare = l.spare }
-claimed_lines (Owner.Place p) key a l = l
+claimed_lines None key a l = record { room = l.room; count = l.count; different = l.different; spare = l.spare }
+claimed_lines (Some p) key a l = l
 
 pub claimed_legal : (o : Owner) (key : List ℕ) (a : Accounts) → place_of key (held_keys a) < a.count → owner_legal a ≡ true → owner_legal (claimed o key a) ≡ true
 unfolding owner_legal
-claimed_legal Owner.Nobody key a h l = lt-ltb (place_of key (held_keys a)) a.count h
-claimed_legal (Owner.Place p) key a h l = l
+claimed_legal None key a h l = lt-ltb (place_of key (held_keys a)) a.count h
+claimed_legal (Some p) key a h l = l
 
 pub claimed_key : (o : Owner) (used : List ℕ) (a : Accounts) → a.owner ≡ o → (key : List ℕ) → owner_key a ≡ some key → owner_key (claimed o used a) ≡ some key
 unfolding owner_key
-claimed_key Owner.Nobody used a e key h = let none-there : none ≡ some key = rw e at h in cc
-claimed_key (Owner.Place p) used a e key h = h
+claimed_key None used a e key h = let none-there : none ≡ some key = rw e at h in cc
+claimed_key (Some p) used a e key h = h
 
 pub claimed_bytes : (o : Owner) (key : List ℕ) (a : Accounts) → (claimed o key a).keys ≡ a.keys
-claimed_bytes Owner.Nobody key a = refl
-claimed_bytes (Owner.Place p) key a = refl
+claimed_bytes None key a = refl
+claimed_bytes (Some p) key a = refl
 
 -- a row of a table of bytes is bytes
 row_bytes : (count : ℕ) (table : List ℕ) (p : ℕ) → Bytes table → Bytes (get_or (rows account_key_size count table) p [])
@@ -91,8 +92,8 @@ unfolding owner_key held_keys
 owner_bytes a key e b = go a.owner e
   where
     go : (o : Owner) → row_of o (rows account_key_size a.count a.keys) ≡ some key → Bytes key
-    go Owner.Nobody h = let z : ◌≡◌ {A = ℕ} 0 1 = cc in absurd (omega arith)
-    go (Owner.Place p) h = let is : get_or (rows account_key_size a.count a.keys) p [] ≡ key = cc in rw is at (row_bytes a.count a.keys p b)
+    go None h = let z : ◌≡◌ {A = ℕ} 0 1 = cc in absurd (omega arith)
+    go (Some p) h = let is : get_or (rows account_key_size a.count a.keys) p [] ≡ key = cc in rw is at (row_bytes a.count a.keys p b)
 
 -- A use leaves a well-formed unit
 pub after_use_lem : (u : TagUnit) → well_formed u ≡ true → (key : List ℕ) → among key (held_keys u.accounts) ≡ true → well_formed (after_use key u) ≡ true
@@ -103,9 +104,9 @@ after_use_lem u w key held =
 
 -- A use of the key that is first changes nothing
 followed_first : (o : Owner) → followed 0 o ≡ o
-followed_first Owner.Nobody = refl
-followed_first (Owner.Place zero) = refl
-followed_first (Owner.Place (suc p)) = rw (ne_eqb (suc p) 0 (λ e. omega arith), le-ltb (suc p) 0 (omega arith))
+followed_first None = refl
+followed_first (Some zero) = refl
+followed_first (Some (suc p)) = rw (ne_eqb (suc p) 0 (λ e. omega arith), le-ltb (suc p) 0 (omega arith))
 
 pub used_first : (a : Accounts) → AccountsLines a → 0 < a.count → key_used (get_or (held_keys a) 0 []) a ≡ a
 unfolding held_keys

@@ -10,13 +10,14 @@ use native.Mathlib.Omega.{arith}
 use lib.Dec.{ltb, leb}
 use lib.ListN.{length, get_or, drop}
 use borrow.Author.Tests.{ltb-false, leb-false, not-false}
+use Rattle.std.specs.Prelude.{Some, None}
 use Rattle.laws.proofs.Flags.{true_or_false, or_cases, or_fails_left, or_fails_right, clash}
 use Rattle.laws.proofs.Same.{same_equal, same_differ}
 use Rattle.tables.specs.Rows.{first_that}
 use Rattle.wire.specs.Shape.{Request, parsed, shape_legal}
 use Rattle.wire.specs.Signing.{derived_key, key_proof, request_tag}
 use Rattle.unit.specs.declared.TagUnit.{TagUnit}
-use Rattle.unit.specs.declared.Owner.{Owner}
+use Rattle.unit.specs.Types.{Owner}
 use Rattle.unit.specs.declared.Protection.{Protection}
 use Rattle.unit.specs.WellFormed.{held_keys, row_of, owner_key}
 use Rattle.unit.specs.Change.{spent}
@@ -117,7 +118,7 @@ module _ (u : TagUnit) (w : List ℕ) (reach : ℕ) (l : RecordLines u) where
 
   -- Where the owner did not sign
   data Unsigned (q : Request) : Type 0 where
-    nobody : u.accounts.owner ≡ Owner.Nobody → Unsigned q
+    nobody : u.accounts.owner ≡ None → Unsigned q
     other_tag : (key : List ℕ) → OwnedWith u key → tagged key u.nonces.newest q ≡ false → Unsigned q
 
   unsigned : (q : Request) → signed_by_owner (spent u) q ≡ none → Unsigned q
@@ -126,8 +127,8 @@ module _ (u : TagUnit) (w : List ℕ) (reach : ℕ) (l : RecordLines u) where
     where
       go : (o : Owner) → u.accounts.owner ≡ o
           → only_if (λ k. tagged k u.nonces.newest q) (row_of o (held_keys u.accounts)) ≡ none → Unsigned q
-      go Owner.Nobody h n = nobody h
-      go (Owner.Place p) h n =
+      go None h n = nobody h
+      go (Some p) h n =
           other_tag (get_or (held_keys u.accounts) p []) (p, h, sym (key_at u p (l.owner_held p h))) (not_chosen _ _ n)
 
   module _ (tag additional : List ℕ) (live : u.nonces.live ≡ true) where
@@ -184,8 +185,8 @@ module _ (u : TagUnit) (w : List ℕ) (reach : ℕ) (l : RecordLines u) where
       owner_there e = go u.accounts.owner refl e
         where
           go : (o : Owner) → u.accounts.owner ≡ o → row_of o (held_keys u.accounts) ≡ none → ⊥
-          go Owner.Nobody h n = l.key_owned held h
-          go (Owner.Place p) h n = let z : ◌≡◌ {A = ℕ} 0 1 = cc in omega arith
+          go None h n = l.key_owned held h
+          go (Some p) h n = let z : ◌≡◌ {A = ℕ} 0 1 = cc in omega arith
 
       -- a request that a derived key did not sign
       not_signed : (id size n : ℕ) → Sent w id size tag additional → Signer u id (key_from n u.identity.bytes) → (Skipped u id → ⊥)

@@ -10,6 +10,7 @@ use lib.Dec.{ltb, leb}
 use lib.IntN.{ℤ, pos, neg_ℤ}
 use lib.Signed.{lt_z, lt_z_yes, lt_z_no, clash_ℤ}
 use borrow.Author.Tests.{ltb-true, ltb-false, leb-true, leb-false}
+use Rattle.std.specs.Prelude.{Err}
 use Rattle.laws.specs.Answer.{gives, refuses}
 use Rattle.laws.proofs.Flags.{true_or_false, fails}
 use Rattle.unit.specs.declared.TagUnit.{TagUnit}
@@ -17,8 +18,7 @@ use Rattle.unit.specs.declared.Settings.{Settings}
 use Rattle.unit.specs.declared.Refusal as code
 use Rattle.unit.specs.Refusals.{refusal_number}
 use Rattle.unit.specs.WellFormed.{well_formed, settings_legal}
-use Rattle.sleep.specs.declared.Sleep.{Sleep}
-use Rattle.sleep.specs.Sleep.{Sleeps}
+use Rattle.sleep.specs.Sleep.{Sleep, Sleeps}
 use Rattle.unit.specs.Change.{no_unit}
 use Rattle.unit.specs.Outcome.{Outcome, refusing}
 use Rattle.unit.proofs.Lines.{SettingsLines, settings_lines, settings_legal_lem}
@@ -145,10 +145,10 @@ module _ (power : ℤ) (components selectable : ℕ) where
       go (inr h) r = let z : ◌≡◌ {A = ℕ} 0 1 = cc (was_made h) in absurd (omega arith)
 
 -- How long it may sleep: the promise gives a number or refusal 2, by the record alone
-sleep_refused_lem : (u : TagUnit) (s : Sleep) → Sleeps u s → well_formed u ≡ false → (r : code.Refusal) × (s ≡ Sleep.Refused r) × (refusal_number r ≡ 2)
+sleep_refused_lem : (u : TagUnit) (s : Sleep) → Sleeps u s → well_formed u ≡ false → (r : code.Refusal) × (s ≡ Err r) × (refusal_number r ≡ 2)
 sleep_refused_lem u s h e = (code.Refusal.NotWellFormed, h.refused e, refl)
 
-sleep_refused_only : (u : TagUnit) (s : Sleep) (r : code.Refusal) → Sleeps u s → s ≡ Sleep.Refused r → well_formed u ≡ false
+sleep_refused_only : (u : TagUnit) (s : Sleep) (r : code.Refusal) → Sleeps u s → s ≡ Err r → well_formed u ≡ false
 sleep_refused_only u s r h e = go (true_or_false (well_formed u))
   where
     go : (well_formed u ≡ true) ⊎ (well_formed u ≡ false) → well_formed u ≡ false

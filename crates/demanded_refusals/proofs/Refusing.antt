@@ -8,13 +8,14 @@ use native.Mathlib.Omega.{arith}
 use lib.Dec.{ltb}
 use lib.ListN.{length, get_or, drop}
 use borrow.Author.Tests.{le-ltb, lt-leb}
+use Rattle.std.specs.Prelude.{Some, None}
 use Rattle.laws.proofs.Flags.{and_fails_left, and_fails_right, or_left, or_right, fails}
 use Rattle.laws.proofs.Same.{differ_same, equal_same}
 use Rattle.tables.specs.Rows.{first_that}
 use Rattle.wire.specs.Shape.{Request, shape_legal}
 use Rattle.wire.specs.Signing.{derived_key, key_proof, request_tag}
 use Rattle.unit.specs.declared.TagUnit.{TagUnit}
-use Rattle.unit.specs.declared.Owner.{Owner}
+use Rattle.unit.specs.Types.{Owner}
 use Rattle.unit.specs.declared.Protection.{Protection}
 use Rattle.unit.specs.WellFormed.{held_keys, row_of, owner_key}
 use Rattle.unit.specs.Change.{spent}
@@ -110,11 +111,11 @@ module _ (u : TagUnit) (w : List ℕ) (reach : ℕ) (l : RecordLines u) where
   nobodys tag additional of_unprotection low h = absurd (omega arith)
 
   -- the owner's
-  ownerless : (q : Request) → u.accounts.owner ≡ Owner.Nobody → signed_by_owner (spent u) q ≡ none
+  ownerless : (q : Request) → u.accounts.owner ≡ None → signed_by_owner (spent u) q ≡ none
   unfolding signed_by_owner owner_key
   ownerless q e = rw e
 
-  set_by_nobody : (size : ℕ) (tag additional : List ℕ) → u.accounts.owner ≡ Owner.Nobody
+  set_by_nobody : (size : ℕ) (tag additional : List ℕ) → u.accounts.owner ≡ None
       → by_id (spent u) (request_of 0x02 size tag additional) reach ≡ rejects 0x80
   unfolding by_id set_key
   set_by_nobody size tag additional e = rw (ownerless (request_of 0x02 size tag additional) e)
@@ -133,8 +134,8 @@ module _ (u : TagUnit) (w : List ℕ) (reach : ℕ) (l : RecordLines u) where
   owned_by_some held = go u.accounts.owner refl
     where
       go : (o : Owner) → u.accounts.owner ≡ o → (key : List ℕ) × (row_of u.accounts.owner (held_keys u.accounts) ≡ some key)
-      go Owner.Nobody e = absurd (l.key_owned held e)
-      go (Owner.Place p) e = (get_or (held_keys u.accounts) p [], rw e)
+      go None e = absurd (l.key_owned held e)
+      go (Some p) e = (get_or (held_keys u.accounts) p [], rw e)
 
   not_skipping : (p : Protection) → (p ≡ Protection.On true → ⊥) → skips p ≡ false
   not_skipping Protection.Off h = refl

@@ -9,13 +9,14 @@ use native.Mathlib.Omega.{arith}
 use lib.Bits.{bit_and, and_le_l}
 use lib.Dec.{eqb, leb}
 use borrow.Author.Tests.{eqb-true, eqb-false, leb-true, le-ltb}
+use Rattle.std.specs.Prelude.{Some, None}
 use Rattle.laws.proofs.Flags.{and_left, and_right, or_rest}
 use Rattle.wire.specs.Signing.{ring_key}
 use Rattle.wire.specs.Shape.{Request, parsed, shape_legal}
 use Rattle.key_blocks.specs.KeyBlocks.{decrypted_key}
 use Rattle.unit.specs.declared.TagUnit.{TagUnit}
 use Rattle.unit.specs.declared.Settings.{Settings}
-use Rattle.unit.specs.declared.Owner.{Owner}
+use Rattle.unit.specs.Types.{Owner}
 use Rattle.unit.specs.declared.Sound.{Sound}
 use Rattle.unit.specs.declared.Protection.{Protection}
 use Rattle.sizes.specs.Sizes.{highest_volume}
@@ -63,8 +64,8 @@ used_held u q key e =
     omega (arith, place_below key l (first_among _ l key e), held_count u.accounts)
 
 owner_is_lem : (o : Owner) (l : List (List ℕ)) (key : List ℕ) → row_of o l ≡ some key → owned o ≡ true
-owner_is_lem Owner.Nobody l key e = cc
-owner_is_lem (Owner.Place q) l key e = refl
+owner_is_lem None l key e = cc
+owner_is_lem (Some q) l key e = refl
 
 only_some : (p : List ℕ → Bool) (o : Option (List ℕ)) (key : List ℕ) → only_if p o ≡ some key → o ≡ some key
 only_some p none key e = e
@@ -113,8 +114,8 @@ ruleset forms = (key_forms, accepted, rejected)
 module _ (u : TagUnit) (w : well_formed u ≡ true) (q : Request) where
   owned_formed : (o : Owner) (key : List ℕ) → u.accounts.owner ≡ o → place_of key (held_keys u.accounts) < u.accounts.count
       → well_formed (with_accounts (claimed o key u.accounts) u) ≡ true
-  owned_formed Owner.Nobody key e h = owner_kept u w (place_of key (held_keys u.accounts)) h
-  owned_formed (Owner.Place held) key e h = w
+  owned_formed None key e h = owner_kept u w (place_of key (held_keys u.accounts)) h
+  owned_formed (Some held) key e h = w
 
   parameters_forms : Forms (read_parameters u q)
   unfolding read_parameters

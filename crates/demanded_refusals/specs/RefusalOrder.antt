@@ -1,14 +1,13 @@
 -- The refusal list over all calls, in literal numbers: "Each is given exactly then .. Order: 6, 2, then the call's own .. A new unit checks
 -- only 1." For a write 6, 2, 1, and then the nonce is spent. A call is refused with a number exactly if one of the lines below gives that number, and then
 -- the unit is as it was; a write that is refused with 0x80, 0x81 or 0x82 only spends its nonce.
-use Rattle.std.specs.Prelude.{ℕ, ◌≤◌, ◌<◌, ◌≡◌, true, false, List, length, ℤ, pos, neg_ℤ, ◌<ℤ◌}
+use Rattle.std.specs.Prelude.{ℕ, ◌≤◌, ◌<◌, ◌≡◌, true, false, List, length, ℤ, pos, neg_ℤ, ◌<ℤ◌, Err}
 use Rattle.laws.specs.Answer.{refuses}
 use Rattle.unit.specs.declared.TagUnit.{TagUnit}
 use Rattle.unit.specs.declared.Refusal as code
 use Rattle.unit.specs.Refusals.{refusal_number}
 use Rattle.unit.specs.WellFormed.{well_formed}
-use Rattle.sleep.specs.declared.Sleep.{Sleep}
-use Rattle.sleep.specs.Sleep.{Sleeps}
+use Rattle.sleep.specs.Sleep.{Sleep, Sleeps}
 use Rattle.settings_calls.specs.Settings.{new_unit}
 use Rattle.tag.specs.Calls.{Written, read, write, button, battery, account_key, frame, Act, calls, waits}
 use Rattle.demanded_answers.specs.History.{step}
@@ -70,5 +69,5 @@ pub record RefusalOrder : Type 0 where
   pub none_made : (power : ℤ) (components selectable : ℕ) → OutOfRange power components selectable
       → well_formed (new_unit power components selectable).unit ≡ false
   -- how long it may sleep: 2 on a unit that is not well formed, and only there
-  pub sleep_refused : (u : TagUnit) (s : Sleep) → Sleeps u s → well_formed u ≡ false → (r : code.Refusal) × (s ≡ Sleep.Refused r) × (refusal_number r ≡ 2)
-  pub sleep_refused_only_then : (u : TagUnit) (s : Sleep) (r : code.Refusal) → Sleeps u s → s ≡ Sleep.Refused r → well_formed u ≡ false
+  pub sleep_refused : (u : TagUnit) (s : Sleep) → Sleeps u s → well_formed u ≡ false → (r : code.Refusal) × (s ≡ Err r) × (refusal_number r ≡ 2)
+  pub sleep_refused_only_then : (u : TagUnit) (s : Sleep) (r : code.Refusal) → Sleeps u s → s ≡ Err r → well_formed u ≡ false

@@ -1,10 +1,9 @@
 -- Demand 2, that no other write is served: why a write is refused with 0x80, 0x81 or 0x82, in literal numbers. Exactly for these reasons, and
 -- each only spends the nonce. A write that has none of them is served, and `Accepted` says with what. None of them looks at the mask of reachable
 -- parts, if it passed: "values" too are those of the mask that is asked for.
-use Rattle.std.specs.Prelude.{ℕ, ◌+◌, ◌*◌, ◌/◌, ◌%◌, ◌^◌, ◌≤◌, ◌<◌, ◌≡◌, true, false, List, [], ◌∷◌, ◌++◌, length, drop}
+use Rattle.std.specs.Prelude.{ℕ, ◌+◌, ◌*◌, ◌/◌, ◌%◌, ◌^◌, ◌≤◌, ◌<◌, ◌≡◌, true, false, List, [], ◌∷◌, ◌++◌, length, drop, None}
 use Rattle.laws.specs.Answer.{gives, refuses}
 use Rattle.unit.specs.declared.TagUnit.{TagUnit}
-use Rattle.unit.specs.declared.Owner.{Owner}
 use Rattle.unit.specs.declared.Protection.{Protection}
 use Rattle.unit.specs.WellFormed.{well_formed}
 use Rattle.unit.specs.Outcome.{Outcome}
@@ -82,7 +81,7 @@ pub data Reason (u : TagUnit) (w : List ℕ) : ℕ → Type 0 where
       → ((p : ℕ) → p < u.accounts.count → tag ≡ tag_from (key_at_place u p) u.nonces.newest id size additional → ⊥)
       → Reason u w 0x80
   -- "with no owner, 0x80"
-  no_owner : {size : ℕ} {tag additional : List ℕ} → Sent w 0x02 size tag additional → u.accounts.owner ≡ Owner.Nobody → Reason u w 0x80
+  no_owner : {size : ℕ} {tag additional : List ℕ} → Sent w 0x02 size tag additional → u.accounts.owner ≡ None → Reason u w 0x80
   -- a tag of another key, nonce, ID, length or data
   wrong_tag : {id size : ℕ} {tag additional key : List ℕ} → Sent w id size tag additional → Signer u id key → (Skipped u id → ⊥)
       → (tag ≡ tag_from key u.nonces.newest id size additional → ⊥)

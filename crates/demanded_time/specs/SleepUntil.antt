@@ -3,9 +3,8 @@
 -- 1,024 seconds. Show that any shorter sleep, cut as you like, gives no notification, the same frame or frame refusal, and the same yes or no
 -- on consent; and that at the named tenth at least one of those four things happens."
 -- `Soonest` is what the code's call promises of the number that it names; here is what that number means over lists of elapsed calls.
-use Rattle.std.specs.Prelude.{ℕ, ◌+◌, ◌≤◌, ◌<◌, ◌≡◌, Bool, true, ◌||◌, List, [], ◌∷◌, ◌++◌, ltb, replicate}
+use Rattle.std.specs.Prelude.{ℕ, ◌+◌, ◌≤◌, ◌<◌, ◌≡◌, Bool, true, ◌||◌, List, [], ◌∷◌, ◌++◌, ltb, replicate, Some}
 use Rattle.unit.specs.declared.TagUnit.{TagUnit}
-use Rattle.unit.specs.declared.Owner.{Owner}
 use Rattle.unit.specs.declared.Sound.{Sound}
 use Rattle.unit.specs.Change.{fresh, with_clock, with_accounts, with_identity, with_sound, with_consent}
 use Rattle.unit.specs.WellFormed.{well_formed}
@@ -69,7 +68,7 @@ abbrev pub ringing_at : ℕ → ℕ → ℕ → ℕ → TagUnit
 ringing_at seconds tenth consent left =
     with_sound (Sound.Ringing 1 0 left) (replicate 8 3)
     (with_identity (record { held = true; bytes = replicate 32 2 })
-    (with_accounts (record { count = 1; owner = Owner.Place 0; keys = replicate 16 1 ++ replicate 144 0 }) (unit_at seconds tenth consent)))
+    (with_accounts (record { count = 1; owner = Some 0; keys = replicate 16 1 ++ replicate 144 0 }) (unit_at seconds tenth consent)))
 
 pub record Row : Type 0 where
   pub unit : TagUnit

@@ -1,6 +1,7 @@
 -- From what the reader's calls promise to what the exported ones do: the number, and the lent bytes after them.
 use Prim.Native.Nat.{ℕ, suc, ◌+◌, ◌≤◌, ◌<◌}
 use mathlib.Core.Path.{◌≡◌, refl, sym}
+use mathlib.Core.Bool.{Bool, true, false, cond}
 use mathlib.Core.List.{List, [], ◌∷◌, ◌++◌, append_assoc}
 use native.Mathlib.Omega.{arith}
 use lib.ListN.{length, get_or, drop, take, set, length-append}
@@ -10,7 +11,9 @@ use Rattle.laws.specs.Answer.{lent_after, Wrote}
 use Rattle.laws.proofs.Answered.{wrote}
 use Rattle.laws.proofs.Copied.{copied_next}
 use Rattle.frame_reader.specs.Reader.{Reading, reads, refused}
-use Rattle.desk.specs.Exported.{written, roomy, reading_code, reading_result, ExportsReading}
+use Rattle.std.specs.Prelude.{Option, None, Some, is_some, unwrap_or}
+use Rattle.std.specs.Int.{from_bool}
+use Rattle.desk.specs.Exported.{flags_shown, flags_byte, written, roomy, reading_code, reading_result, ExportsReading}
 
 -- the identifier, and three bytes right behind it
 pub parts_put : (id before one two : List ℕ) (x y z : ℕ) → length id ≡ 20
@@ -20,6 +23,19 @@ parts_put id before one two x y z sized e f =
     let first : one ≡ id ++ drop 20 before = rw sized at (copied_next before [] id before one 0 refl refl e) in
     wrote {answer = id ++ (x ∷ y ∷ z ∷ [])} (rw (length-append, sized))
     (copied_next before id (x ∷ y ∷ z ∷ []) one two 20 sized first f)
+
+-- a flag as a byte; whether there is a flags byte, and that byte or 0
+pub bit_is : (on : Bool) → from_bool on ≡ cond on 1 0
+bit_is true = refl
+bit_is false = refl
+
+pub shown_is : (flags : Option ℕ) → from_bool (is_some flags) ≡ flags_shown flags
+shown_is None = refl
+shown_is (Some b) = refl
+
+pub byte_is : (flags : Option ℕ) → unwrap_or flags 0 ≡ flags_byte flags
+byte_is None = refl
+byte_is (Some b) = refl
 
 -- one more byte behind an answer
 pub one_more : (answer before after : List ℕ) (n b : ℕ) → Wrote answer n before after → n < length before

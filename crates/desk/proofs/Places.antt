@@ -1,10 +1,10 @@
 -- Each part stands where the header says: behind an identifier of its length.
 use Prim.Native.Nat.{ℕ, ◌+◌}
-use mathlib.Core.Path.{◌≡◌, refl, sym, ap, ◌∙◌}
+use mathlib.Core.Path.{◌≡◌}
 use mathlib.Core.Bool.{cond}
 use mathlib.Core.List.{List, [], ◌∷◌, ◌++◌}
 use native.Mathlib.Omega.{arith}
-use lib.ListN.{length, get_or, take, drop, length-append}
+use lib.ListN.{length, get_or, length-append}
 use lib.Seq.{take_at, get_or_at, get_or-append-add}
 use Rattle.frame_reader.specs.Reader.{Parts}
 use Rattle.frame_opener.specs.Opener.{Opened}

@@ -1,20 +1,20 @@
 -- What the reader's exported calls give: one number, and the lent bytes after the call.
+use Rattle.std.specs.Prelude.{Option, None, Some}
 use Rattle.std.specs.Prelude.{ℕ, ◌+◌, ◌*◌, ◌^◌, ◌≡◌, cond, List, [], ◌∷◌, ◌++◌, ltb, length}
 use Rattle.laws.specs.Answer.{Result, gives, refuses, lent_after}
 use Rattle.sizes.specs.Sizes.{identifier_size}
-use Rattle.frame.specs.declared.Flags.{Flags}
 use Rattle.frame_reader.specs.Reader.{Parts, Reading, reads, refused, wrong_byte, read_frame}
 use Rattle.frame_opener.specs.Opener.{Opened, read_frame_with_r}
 
 -- "it gives identifier, protection bit and flags byte if present": the identifier, protection as 0 or 1, whether there is a flags byte, as 0 or
 -- 1, and that byte, or 0; with r the battery level behind them
-abbrev pub flags_shown : Flags → ℕ
-flags_shown Flags.LeftOut = 0
-flags_shown (Flags.Shown byte) = 1
+abbrev pub flags_shown : Option ℕ → ℕ
+flags_shown None = 0
+flags_shown (Some byte) = 1
 
-abbrev pub flags_byte : Flags → ℕ
-flags_byte Flags.LeftOut = 0
-flags_byte (Flags.Shown byte) = byte
+abbrev pub flags_byte : Option ℕ → ℕ
+flags_byte None = 0
+flags_byte (Some byte) = byte
 
 -- where each of them stands, and how many bytes they take
 abbrev pub parts_identifier_at : ℕ

@@ -1,5 +1,5 @@
 -- Where each part stands in the lent bytes, as the C header says. Proved in proofs/Places.
-use Rattle.std.specs.Prelude.{ℕ, ◌≡◌, cond, length, get_or, take, drop}
+use Rattle.std.specs.Prelude.{◌≡◌, cond, length, get_or, take, drop}
 use Rattle.sizes.specs.Sizes.{identifier_size}
 use Rattle.frame_reader.specs.Reader.{Parts}
 use Rattle.frame_opener.specs.Opener.{Opened}

@@ -4,13 +4,14 @@
 ghost use Rattle.std.specs.Prelude.{◌≡◌, ◌≤◌, length};
 ghost use Rattle.laws.specs.Answer.{Wrote};
 ghost use Rattle.sizes.specs.Sizes.{longest_frame};
-ghost use Rattle.desk.specs.Exported.{parts_size, part_bytes, flags_shown, flags_byte, parts_read, parts_read_with_r, ExportsReading, wrong_byte_code};
+ghost use Rattle.frame_reader.specs.Scanned.{parts_of};
+ghost use Rattle.desk.specs.Exported.{parts_size, part_bytes, parts_read, parts_read_with_r, ExportsReading, wrong_byte_code};
 
-use frame::Flags;
-use frame_opener::SeenWithR;
-use frame_reader::Seen;
+use frame_opener::NotOpened;
+use frame_reader::{Frame, WrongByte};
 use sizes::IDENTIFIER_SIZE;
 
+// Kept: the C interface: these numbers stand in the one that an exported call gives.
 const REFUSAL_BASE: u64 = 256;
 
 const PLACE_BASE: u64 = 65536;
@@ -31,31 +32,17 @@ fn wrong_byte(at: usize) -> u64
     REFUSAL_BASE + frame_reader::WRONG_BYTE + at as u64 * PLACE_BASE
 }
 
-fn flags_shown(flags: Flags) -> u8
-    ensures { result ≡ flags_shown flags }
-{
-    match flags {
-        Flags::LeftOut => 0,
-        Flags::Shown(_) => 1,
-    }
-}
-
-fn flags_byte(flags: Flags) -> u8
-    ensures { result ≡ flags_byte flags }
-{
-    match flags {
-        Flags::LeftOut => 0,
-        Flags::Shown(byte) => byte,
-    }
-}
-
 // Writes what a frame says.
-fn put_parts(parts: &mut [u8], id: [u8; IDENTIFIER_SIZE], on: bool, flags: Flags)
+fn put_parts(parts: &mut [u8], frame: Frame)
     requires { parts_size ≤ length parts.old }
-    ensures { Wrote (part_bytes (record { identifier = id; protected = on; flags = flags })) parts_size parts.old parts.new }
+    ensures { Wrote (part_bytes (parts_of frame)) parts_size parts.old parts.new }
 {
-    let rest = [frame_reader::bit(on), flags_shown(flags), flags_byte(flags)];
-    octets::put(parts, 0, &id);
+    octets::put(parts, 0, &frame.id);
+    let rest = [
+        u8::from(frame.on),
+        u8::from(frame.flags.is_some()),
+        frame.flags.unwrap_or(0),
+    ];
     octets::put(parts, IDENTIFIER_SIZE, &rest);
 }
 
@@ -66,13 +53,10 @@ pub fn read(text: &[u8], parts: &mut [u8]) -> u64
     if parts.len() < PARTS_SIZE {
         return REFUSAL_BASE + NO_ROOM;
     }
-    let scanned = frame_reader::read(text);
-    let id = scanned.id;
-    let seen = scanned.seen;
-    match seen {
-        Seen::WrongByte(at) => wrong_byte(at),
-        Seen::Frame { on, flags } => {
-            put_parts(parts, id, on, flags);
+    match frame_reader::read(text) {
+        Err(WrongByte { at }) => wrong_byte(at),
+        Ok(frame) => {
+            put_parts(parts, frame);
             PARTS_SIZE as u64
         }
     }
@@ -85,15 +69,12 @@ pub fn read_with_r(text: &[u8], r: &[u8], parts: &mut [u8]) -> u64
     if parts.len() < OPENED_SIZE {
         return REFUSAL_BASE + NO_ROOM;
     }
-    let scanned = frame_opener::read_with_r(text, r);
-    let id = scanned.id;
-    let seen = scanned.seen;
-    match seen {
-        SeenWithR::WrongByte(at) => wrong_byte(at),
-        SeenWithR::WrongSize => REFUSAL_BASE + frame_opener::WRONG_SIZE,
-        SeenWithR::Frame { on, flags, battery } => {
-            put_parts(parts, id, on, flags);
-            parts[PARTS_SIZE] = battery;
+    match frame_opener::read_with_r(text, r) {
+        Err(NotOpened::WrongByte(at)) => wrong_byte(at),
+        Err(NotOpened::WrongSize) => REFUSAL_BASE + frame_opener::WRONG_SIZE,
+        Ok(opened) => {
+            put_parts(parts, opened.frame);
+            parts[PARTS_SIZE] = opened.battery;
             OPENED_SIZE as u64
         }
     }

@@ -12,10 +12,8 @@ fn shift_in(t: &mut [u32], byte: u8, m: &[u32])
     requires { Below t.old m.now }
     ensures { value t.new ≡ (value t.old * 256 + byte) % value m.now }
 {
-    let mut left: usize = 8;
-    while 0 < left {
-        left -= 1;
-        let bit = (byte >> left) % 2;
+    for place in (0..8u32).rev() {
+        let bit = (byte >> place) % 2;
         let top = twice(t, bit as u32);
         reduce_once(t, top, m);
     }
@@ -26,10 +24,8 @@ pub fn remainder(t: &mut [u32], bytes: &[u8], m: &[u32])
     requires { Below t.old m.now }
     ensures { value t.new ≡ number_after (value t.old) bytes.now % value m.now }
 {
-    let mut i: usize = 0;
-    while i < bytes.len() {
-        shift_in(t, bytes[i], m);
-        i += 1;
+    for &byte in bytes {
+        shift_in(t, byte, m);
     }
 }
 
@@ -37,7 +33,7 @@ pub fn remainder(t: &mut [u32], bytes: &[u8], m: &[u32])
 fn limb(t: &[u32], k: usize) -> u32
     ensures { result ≡ get_or t.now k 0 }
 {
-    if k < t.len() { t[k] } else { 0 }
+    t.get(k).copied().unwrap_or(0)
 }
 
 // Bit i of a number, counted from the lowest
@@ -58,9 +54,7 @@ fn byte(t: &[u32], i: usize) -> u8
 pub fn to_bytes(out: &mut [u8], t: &[u32])
     ensures { out.new ≡ big_endian (length out.old) (value t.now) }
 {
-    let mut i: usize = 0;
-    while i < out.len() {
+    for i in 0..out.len() {
         out[i] = byte(t, out.len() - 1 - i);
-        i += 1;
     }
 }

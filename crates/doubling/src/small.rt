@@ -1,37 +1,42 @@
 // Small multiples of a form, by sums.
+// Kept: a function for each, since the sums differ: one over the factor would have to look for them, and be no plainer.
 ghost use Rattle.curve_laws.specs.Modulo.{times};
-ghost use Rattle.field.specs.Montgomery.{Field, Form, Gives};
+ghost use Rattle.field.specs.Forms.{Form, Gives};
 
-use field::operation::sum;
+use field::Prime;
 
 // 2 a
-pub fn twofold(a: [u32; 8], m: &[u32], inv: u32) -> [u32; 8]
-    requires { Field m.now inv × Form m.now a }
-    ensures { Gives m.now inv result (λ p v. times p 2 (v a)) }
+#[tactic(auto, using(crate::proofs::Formulas::two))]
+pub fn twofold<const N: usize>(f: &Prime<N>, a: [u32; N]) -> [u32; N]
+    requires { Form f.now a }
+    ensures { Gives f.now result (λ p v. times p 2 (v a.entry)) }
 {
-    sum(a, a, m, inv)
+    f.sum(a, a)
 }
 
 // 3 a
-pub fn threefold(a: [u32; 8], m: &[u32], inv: u32) -> [u32; 8]
-    requires { Field m.now inv × Form m.now a }
-    ensures { Gives m.now inv result (λ p v. times p 3 (v a)) }
+#[tactic(auto, using(crate::proofs::Formulas::three))]
+pub fn threefold<const N: usize>(f: &Prime<N>, a: [u32; N]) -> [u32; N]
+    requires { Form f.now a }
+    ensures { Gives f.now result (λ p v. times p 3 (v a.entry)) }
 {
-    sum(twofold(a, m, inv), a, m, inv)
+    f.sum(twofold(f, a), a)
 }
 
 // 4 a
-pub fn fourfold(a: [u32; 8], m: &[u32], inv: u32) -> [u32; 8]
-    requires { Field m.now inv × Form m.now a }
-    ensures { Gives m.now inv result (λ p v. times p 4 (v a)) }
+#[tactic(auto, using(crate::proofs::Formulas::four))]
+pub fn fourfold<const N: usize>(f: &Prime<N>, a: [u32; N]) -> [u32; N]
+    requires { Form f.now a }
+    ensures { Gives f.now result (λ p v. times p 4 (v a.entry)) }
 {
-    twofold(twofold(a, m, inv), m, inv)
+    twofold(f, twofold(f, a))
 }
 
 // 8 a
-pub fn eightfold(a: [u32; 8], m: &[u32], inv: u32) -> [u32; 8]
-    requires { Field m.now inv × Form m.now a }
-    ensures { Gives m.now inv result (λ p v. times p 8 (v a)) }
+#[tactic(auto, using(crate::proofs::Formulas::eight))]
+pub fn eightfold<const N: usize>(f: &Prime<N>, a: [u32; N]) -> [u32; N]
+    requires { Form f.now a }
+    ensures { Gives f.now result (λ p v. times p 8 (v a.entry)) }
 {
-    twofold(fourfold(a, m, inv), m, inv)
+    twofold(f, fourfold(f, a))
 }

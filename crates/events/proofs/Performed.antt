@@ -5,12 +5,12 @@ use mathlib.Core.List.{List, [], ◌∷◌, ◌++◌}
 use native.Mathlib.Omega.{arith}
 use lib.ListN.{length, take, drop, length-append}
 use lib.Seq.{take-append_seam, length-take-le}
+use Rattle.std.specs.Prelude.{Ok, Err}
 use Rattle.laws.specs.Answer.{Result, gives, refuses, lent_after}
 use Rattle.unit.specs.Refusals.{refusal_number, end_of, ending, wrote}
 use Rattle.unit.specs.Outcome.{Outcome, Answers, Completes}
 use Rattle.unit.specs.declared.TagUnit.{TagUnit}
-use Rattle.unit.specs.declared.Reply.{Reply}
-use Rattle.unit.specs.declared.Reply.TheVariants.{Done, Refused}
+use Rattle.unit.specs.Types.{Reply}
 use Rattle.sizes.specs.Sizes.{answer_room}
 use Rattle.time.specs.Passing.{Passes}
 use Rattle.events.specs.Event.{Event, performed, printed, success_text, elapsed}
@@ -38,10 +38,10 @@ module _ (o : Outcome) (e : Event) (title : List ℕ) where
   answers_printed success {u} {reply} {before} {after} p = go o.result reply p.end_is p.bytes_are
     where
       go : (res : Result) (reply : Reply) → end_of reply ≡ ending res → after ≡ lent_after res before → answered_text title reply after ≡ printed e o res
-      go (gives a) (Done n) h b = rw (taken_back n a before after h b) (sym (success a))
-      go (gives a) (Refused r) h b = let z : ◌≡◌ {A = ℕ} 0 1 = cc in absurd (omega arith)
-      go (refuses k) (Done n) h b = let z : ◌≡◌ {A = ℕ} 0 1 = cc in absurd (omega arith)
-      go (refuses k) (Refused r) h b = let same : refusal_number r ≡ k = cc in ap refused_text same
+      go (gives a) (Ok n) h b = rw (taken_back n a before after h b) (sym (success a))
+      go (gives a) (Err r) h b = let z : ◌≡◌ {A = ℕ} 0 1 = cc in absurd (omega arith)
+      go (refuses k) (Ok n) h b = let z : ◌≡◌ {A = ℕ} 0 1 = cc in absurd (omega arith)
+      go (refuses k) (Err r) h b = let same : refusal_number r ≡ k = cc in ap refused_text same
 
   -- one without
   pub completes_printed : success_text e o [] ≡ title → Quiet o → {u : TagUnit} {reply : Reply}
@@ -50,10 +50,10 @@ module _ (o : Outcome) (e : Event) (title : List ℕ) where
   completes_printed success quiet {u} {reply} p = go o.result reply p.end_is quiet.none
     where
       go : (res : Result) (reply : Reply) → end_of reply ≡ ending res → ((a : List ℕ) → res ≡ gives a → a ≡ []) → completed_text title reply ≡ printed e o res
-      go (gives a) (Done n) h none = rw (none a refl) (sym success)
-      go (gives a) (Refused r) h none = let z : ◌≡◌ {A = ℕ} 0 1 = cc in absurd (omega arith)
-      go (refuses k) (Done n) h none = let z : ◌≡◌ {A = ℕ} 0 1 = cc in absurd (omega arith)
-      go (refuses k) (Refused r) h none = let same : refusal_number r ≡ k = cc in ap refused_text same
+      go (gives a) (Ok n) h none = rw (none a refl) (sym success)
+      go (gives a) (Err r) h none = let z : ◌≡◌ {A = ℕ} 0 1 = cc in absurd (omega arith)
+      go (refuses k) (Ok n) h none = let z : ◌≡◌ {A = ℕ} 0 1 = cc in absurd (omega arith)
+      go (refuses k) (Err r) h none = let same : refusal_number r ≡ k = cc in ap refused_text same
 
 -- time
 pub passes_printed : (o : Outcome) (n : ℕ) {u : TagUnit} {reply : Reply} {at : ℕ} {before after : List ℕ}
@@ -64,10 +64,10 @@ passes_printed o n {u} {reply} {at} {before} {after} p =
   where
     go : (res : Result) (reply : Reply) → end_of reply ≡ ending res → after ≡ lent_after res before
         → passed_text o.ended o.unit.clock.seconds reply after ≡ printed (elapsed n) o res
-    go (gives a) (Done n) h b = rw (taken_back n a before after h b)
-    go (gives a) (Refused r) h b = let z : ◌≡◌ {A = ℕ} 0 1 = cc in absurd (omega arith)
-    go (refuses k) (Done n) h b = let z : ◌≡◌ {A = ℕ} 0 1 = cc in absurd (omega arith)
-    go (refuses k) (Refused r) h b = let same : refusal_number r ≡ k = cc in ap refused_text same
+    go (gives a) (Ok n) h b = rw (taken_back n a before after h b)
+    go (gives a) (Err r) h b = let z : ◌≡◌ {A = ℕ} 0 1 = cc in absurd (omega arith)
+    go (refuses k) (Ok n) h b = let z : ◌≡◌ {A = ℕ} 0 1 = cc in absurd (omega arith)
+    go (refuses k) (Err r) h b = let same : refusal_number r ≡ k = cc in ap refused_text same
 
 -- no more bytes are said to be written than there are
 pub answers_within : {o : Outcome} {u : TagUnit} {reply : Reply} {before after : List ℕ} (room : ℕ)
@@ -76,28 +76,28 @@ unfolding lent_after
 answers_within {o} {u} {reply} {before} {after} room p size = go o.result reply p.end_is p.bytes_are
   where
     go : (res : Result) (reply : Reply) → end_of reply ≡ ending res → after ≡ lent_after res before → replies_within reply room
-    go (gives a) (Done n) h b =
+    go (gives a) (Ok n) h b =
         let e : n ≡ length a = cc in
         let long : length after ≡ length a + length (drop (length a) before) = ap length b ∙ length-append a (drop (length a) before) in
         omega arith
-    go (gives a) (Refused r) h b = tt
-    go (refuses k) (Done n) h b = let z : ◌≡◌ {A = ℕ} 0 1 = cc in absurd (omega arith)
-    go (refuses k) (Refused r) h b = tt
+    go (gives a) (Err r) h b = tt
+    go (refuses k) (Ok n) h b = let z : ◌≡◌ {A = ℕ} 0 1 = cc in absurd (omega arith)
+    go (refuses k) (Err r) h b = tt
 
 module _ (title : List ℕ) (short : length title ≤ 32) where
   pub length_answered : (reply : Reply) (answer : List ℕ) → length answer ≡ answer_room → replies_within reply answer_room → length (answered_text title reply answer) ≤ line_room
-  length_answered (Done n) answer size within =
+  length_answered (Ok n) answer size within =
       let cut : length (take n answer) ≡ n = length-take-le n answer (omega arith) in
       omega (arith, length-append title (bytes_text (take n answer)), length_bytes (take n answer) (omega arith))
-  length_answered (Refused r) answer size within = omega (arith, length_refused (refusal_number r))
+  length_answered (Err r) answer size within = omega (arith, length_refused (refusal_number r))
 
   pub length_completed : (reply : Reply) → length (completed_text title reply) ≤ line_room
-  length_completed (Done n) = omega arith
-  length_completed (Refused r) = omega (arith, length_refused (refusal_number r))
+  length_completed (Ok n) = omega arith
+  length_completed (Err r) = omega (arith, length_refused (refusal_number r))
 
 pub length_passed : (at seconds : ℕ) (reply : Reply) (answer : List ℕ) → length answer ≡ answer_room → replies_within reply answer_room
     → length (passed_text at seconds reply answer) ≤ line_room
-length_passed at seconds (Done n) answer size within =
+length_passed at seconds (Ok n) answer size within =
     let cut : length (take n answer) ≡ n = length-take-le n answer (omega arith) in
     omega (
       arith,
@@ -106,7 +106,7 @@ length_passed at seconds (Done n) answer size within =
       length-append (notes_text at (take n answer)) (ascii "clock=" ++ (decimal seconds ++ (newline ∷ []))),
       length-append (decimal seconds) (newline ∷ []),
     )
-length_passed at seconds (Refused r) answer size within = omega (arith, length_refused (refusal_number r))
+length_passed at seconds (Err r) answer size within = omega (arith, length_refused (refusal_number r))
 
 -- what a call of the tag answers is what its event prints
 module _ (e : Event) (u : TagUnit) (title : List ℕ) (short : length title ≤ 32) {unit unit' : TagUnit} {reply : Reply} {at written : ℕ} {before out : List ℕ} where

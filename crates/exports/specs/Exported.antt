@@ -1,8 +1,7 @@
 -- What the exported functions give: one number, and the record's bytes and the answer bytes after the call.
-use Rattle.std.specs.Prelude.{ℕ, ◌+◌, ◌*◌, ◌^◌, ◌≡◌, Bool, true, false, cond, ◌||◌, List, eqb, length}
+use Rattle.std.specs.Prelude.{ℕ, ◌+◌, ◌*◌, ◌^◌, ◌≡◌, Bool, true, false, cond, ◌||◌, List, eqb, length, Ok, Err}
 use Rattle.laws.specs.Answer.{Result, gives, refuses, lent_after}
-use Rattle.lent_answer.specs.Ends.{end_number}
-use Rattle.lent_answer.specs.declared.Ending.{Ending}
+use Rattle.lent_answer.specs.Ends.{Ending, end_number}
 use Rattle.unit.specs.declared.TagUnit.{TagUnit}
 use Rattle.unit.specs.WellFormed.{well_formed}
 use Rattle.unit.specs.Refusals.{End, wrote, refused}
@@ -77,5 +76,5 @@ pub record Finishes (unit : TagUnit) (end : End) (result : ℕ) (before after : 
 
 -- the number of a primitive's end, whose answer has `size` bytes
 abbrev pub digest_code : ℕ → Ending → ℕ
-digest_code size Ending.Done = size
-digest_code size Ending.WrongSize = refusal_base + end_number Ending.WrongSize
+digest_code size (Ok done) = size
+digest_code size (Err wrong) = refusal_base + end_number (Err wrong)

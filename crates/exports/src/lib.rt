@@ -6,8 +6,8 @@ ghost use Rattle.unit.specs.Change.{no_unit};
 ghost use Rattle.stored.specs.Record.{record_size};
 ghost use Rattle.exports.specs.Exported.{refusal_base, ended_base, spends as spends_nonce, writes_back, Finishes, digest_code};
 
-use lent_answer::Ending;
-use unit::{Refusal, Reply, TagUnit, change, end};
+use lent_answer::WrongSize;
+use unit::{Refusal, Step, change, end};
 
 const REFUSAL_BASE: u64 = 256;
 
@@ -17,49 +17,50 @@ const WRONG_SIZE: u64 = 7;
 // 65,536 times the tenth at which a ring ended, or the tenths to sleep, stands in the number of a call about time.
 const ENDED_BASE: u64 = 65536;
 
-// Whether the refusal of a number spends the nonce, and so changes the unit.
-fn spends(n: u64) -> bool
-    ensures { result ≡ spends_nonce n }
+// Whether a refusal spends the nonce, and so changes the unit.
+fn spends(refusal: Refusal) -> bool
+    ensures { result ≡ spends_nonce (refusal_number refusal) }
 {
-    (n == 0x80) | ((n == 0x81) | (n == 0x82))
-}
-
-// Ends a call: writes the unit back on success and on a refusal that spends the nonce, and gives the bytes written, or 256 and the
-// refusal's number.
-pub fn finish(bytes: &mut [u8], u: TagUnit, reply: Reply) -> u64
-    requires { writes_back (end_of reply) ≡ true → length bytes.old ≡ record_size }
-    ensures { Finishes u (end_of reply) result bytes.old bytes.new }
-{
-    match reply {
-        Reply::Done(count) => {
-            stored::encode(bytes, u);
-            count as u64
-        }
-        Reply::Refused(refusal) => {
-            let n = end::refusal_number(refusal) as u64;
-            if spends(n) {
-                stored::encode(bytes, u);
-                return REFUSAL_BASE + n;
-            }
-            REFUSAL_BASE + n
-        }
-    }
+    matches!(
+        refusal,
+        Refusal::NotAuthenticated | Refusal::InvalidValue | Refusal::NoConsent
+    )
 }
 
 // The number of a refusal: 256 and the refusal's own.
 pub fn refusal_code(refusal: Refusal) -> u64
     ensures { result ≡ refusal_base + refusal_number refusal }
 {
-    REFUSAL_BASE + end::refusal_number(refusal) as u64
+    REFUSAL_BASE + u8::from(refusal) as u64
+}
+
+// Ends a call: writes the unit back on success and on a refusal that spends the nonce, and gives the bytes written, or 256 and the
+// refusal's number.
+pub fn finish(bytes: &mut [u8], step: Step) -> u64
+    requires { writes_back (end_of step.reply) ≡ true → length bytes.old ≡ record_size }
+    ensures { Finishes step.unit (end_of step.reply) result bytes.old bytes.new }
+{
+    match step.reply {
+        Ok(count) => {
+            stored::encode(bytes, step.unit);
+            count as u64
+        }
+        Err(refusal) => {
+            if spends(refusal) {
+                stored::encode(bytes, step.unit);
+            }
+            refusal_code(refusal)
+        }
+    }
 }
 
 // The number of a primitive's end: the bytes written, or 256 and refusal 7.
-pub fn digest_code(end: Ending, size: u64) -> u64
+pub fn digest_code(end: Result<(), WrongSize>, size: u64) -> u64
     ensures { result ≡ digest_code size end }
 {
     match end {
-        Ending::Done => size,
-        Ending::WrongSize => REFUSAL_BASE + WRONG_SIZE,
+        Ok(()) => size,
+        Err(WrongSize) => REFUSAL_BASE + WRONG_SIZE,
     }
 }
 
@@ -77,7 +78,6 @@ pub fn no_record(bytes: &mut [u8]) -> u64
 {
     finish(
         bytes,
-        change::no_unit(),
-        Reply::Refused(Refusal::NotWellFormed),
+        end::refuse(change::no_unit(), Refusal::NotWellFormed),
     )
 }

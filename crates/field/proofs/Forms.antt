@@ -1,145 +1,125 @@
--- Forms as lists: the limbs that count are the first, those behind them stay as they were; and the forms 0 and 1.
+-- Forms as numbers: what sums, differences and products of their limbs hold, and the forms of 0 and 1.
 use mathlib.Core.Path.{◌≡◌, refl, sym, ap, ◌∙◌}
-use mathlib.Core.List.{List, [], ◌∷◌, ◌++◌}
+use mathlib.Core.Bool.{Bool, true, false}
+use mathlib.Core.List.{List, [], ◌∷◌}
 use Prim.Native.Nat.{ℕ, zero, suc, ◌+◌, ◌-◌, ◌*◌, ◌%◌, ◌^◌, ◌<◌}
 use native.Mathlib.Nat.{zero-mul, zero-mod}
 use native.Mathlib.Omega.{arith}
 use native.Mathlib.Decide.{dec_lt}
-use lib.Dec.{eqb, ltb}
-use borrow.Author.Tests.{lt-ltb, le-ltb, eq-eqb, ne_eqb}
-use lib.ListN.{length, take, drop, replicate, length-append, length-drop}
-use lib.Seq.{take_at, length-take-le}
+use borrow.Author.Tests.{eq-eqb, ne_eqb}
+use lib.Dec.{eqb}
+use lib.Pointwise.{pointwise, bytes_decides}
+use lib.ListN.{length, replicate, set, length-replicate}
 use Rattle.limbs.specs.Limbs.{over, value, Below}
 use Rattle.curve_laws.specs.Modulo.{plus, times, minus}
-use Rattle.field.specs.Montgomery.{shrink, plain, Field, Form, Holds, Square}
+use Rattle.field.specs.Montgomery.{shrink, plain, Square}
+use Rattle.field.specs.declared.Prime.{Prime}
+use Rattle.field.specs.Forms.{element, Form, Holds}
 use Rattle.field.proofs.Units.{unit, holds_product, holds_sum, holds_difference, holds_zero, holds_into, holds_out}
 
 -- the limbs of 0, and of 1
-abbrev pub zeros : List ℕ
-zeros = 0 ∷ 0 ∷ 0 ∷ 0 ∷ 0 ∷ 0 ∷ 0 ∷ 0 ∷ []
-
-abbrev pub ones : List ℕ
-ones = 1 ∷ 0 ∷ 0 ∷ 0 ∷ 0 ∷ 0 ∷ 0 ∷ 0 ∷ []
-
-value_replicate : (k j : ℕ) → value (take k (replicate j 0)) ≡ 0
+pub value_zeros : (k : ℕ) → value (replicate k 0) ≡ 0
 unfolding over value
-value_replicate zero j = refl
-value_replicate (suc k) zero = refl
-value_replicate (suc k) (suc j) = let ih : over (take k (replicate j 0)) 0 ≡ 0 = value_replicate k j in omega arith
+value_zeros zero = refl
+value_zeros (suc k) = let ih : over (replicate k 0) 0 ≡ 0 = value_zeros k in omega arith
 
-pub value_zeros : (k : ℕ) → value (take k zeros) ≡ 0
-value_zeros k = value_replicate k 8
-
-pub value_ones : (k : ℕ) → 0 < k → value (take k ones) ≡ 1
+only_zeros : (a : List ℕ) → value a ≡ 0 → a ≡ replicate (length a) 0
 unfolding over value
-value_ones zero h = absurd (omega arith)
-value_ones (suc k) h = let rest : over (take k (replicate 7 0)) 0 ≡ 0 = value_replicate k 7 in omega arith
+only_zeros [] e = refl
+only_zeros (x ∷ xs) e =
+    let first : x ≡ 0 = omega arith in
+    let rest : xs ≡ replicate (length xs) 0 = only_zeros xs (omega arith) in
+    λ i. first i ∷ rest i
 
-pub holds_as : {m : List ℕ} {inv : ℕ} {a : List ℕ} {v w : ℕ} → Holds m inv a v → v ≡ w → Holds m inv a w
+not_true : (b : Bool) → (b ≡ true → ⊥) → b ≡ false
+not_true true h = absurd (h refl)
+not_true false h = refl
+
+pub value_unit : (k : ℕ) → 0 < k → value (set (replicate k 0) 0 1) ≡ 1
+unfolding over value
+value_unit zero h = absurd (omega arith)
+value_unit (suc k) h = let rest : over (replicate k 0) 0 ≡ 0 = value_zeros k in omega arith
+
+pub holds_as : {N : ℕ} {f : Prime N} {a : List ℕ} {v w : ℕ} → Holds f a v → v ≡ w → Holds f a w
 holds_as h e = record { form = h.form; holds = h.holds ∙ e }
 
-module _ (m : List ℕ) (inv : ℕ) (f : Field m inv) where
-  pub width : (a : List ℕ) → length a ≡ 8 → length (take (length m) a) ≡ length m
-  width a e = length-take-le (length m) a (omega (arith, f.narrow))
+module _ {N : ℕ} (f : Prime N) where
+  pub below_zeros : (k : ℕ) → k ≡ length f.m → Below (replicate k 0) f.m
+  below_zeros k e = record { width = length-replicate k 0 ∙ e; less = rw (value_zeros k) (omega (arith, f.field.large)) }
 
-  pub below_zeros : 0 < value m → Below (take (length m) zeros) m
-  below_zeros h = record { width = width zeros refl; less = rw (value_zeros (length m)) h }
-
-  -- 0 holds 0
-  pub holds_none : Holds m inv zeros 0
+  -- 0 holds 0, and only 0 does
+  pub zero_holds : (a : List ℕ) → value a ≡ 0 → element f a ≡ 0
   unfolding plain
-  holds_none =
-      record {
-        form = record { whole = refl; below = below_zeros (omega (arith, f.large)) };
-        holds =
-            ap (λ (k : ℕ). k * shrink m inv ^ length m % value m) (value_zeros (length m))
-            ∙ ap (λ (k : ℕ). k % value m) (zero-mul (shrink m inv ^ length m))
-            ∙ zero-mod (value m);
-      }
+  zero_holds a e =
+      ap (λ (k : ℕ). k * shrink f.m f.inv ^ length f.m % value f.m) e
+      ∙ ap (λ (k : ℕ). k % value f.m) (zero-mul (shrink f.m f.inv ^ length f.m))
+      ∙ zero-mod (value f.m)
 
-  pub form_ones : Form m ones
-  form_ones = record { whole = refl; below = record { width = width ones refl; less = rw (value_ones (length m) f.modulus.some) f.large } }
+  pub holds_none : (k : ℕ) → k ≡ length f.m → Holds f (replicate k 0) 0
+  holds_none k e = record { form = below_zeros k e; holds = zero_holds (replicate k 0) (value_zeros k) }
+
+  pub only_zero : (a : List ℕ) → Form f a → element f a ≡ 0 → value a ≡ 0
+  unfolding plain
+  only_zero a of-a e =
+      holds_zero (value f.m) (4294967296 ^ length f.m) (shrink f.m f.inv ^ length f.m) (omega (arith, f.field.large)) (unit f.m f.inv f.field.modulus)
+      (value a) of-a.less e
+
+  -- the limbs are those of 0 where the form holds 0
+  pub zero_test : (k : ℕ) (a : List ℕ) → k ≡ length f.m → Form f a → pointwise eqb a (replicate k 0) ≡ eqb (element f a) 0
+  zero_test k a e of-a = go (dec_lt (value a) 1)
+    where
+      go : Dec (value a < 1) → pointwise eqb a (replicate k 0) ≡ eqb (element f a) 0
+      go (yes h) =
+          let none : value a ≡ 0 = omega arith in
+          let zeros : a ≡ replicate k 0 = only_zeros a none ∙ ap (λ (n : ℕ). replicate n 0) (of-a.width ∙ sym e) in
+          (bytes_decides a (replicate k 0)).1 zeros ∙ sym (eq-eqb _ 0 (zero_holds a none))
+      go (no n) =
+          let some : pointwise eqb a (replicate k 0) ≡ true → ⊥ =
+          λ t. let none : value a ≡ 0 = ap value ((bytes_decides a (replicate k 0)).0 t) ∙ value_zeros k in omega arith in
+          not_true (pointwise eqb a (replicate k 0)) some ∙ sym (ne_eqb _ 0 (λ q. let none = only_zero a of-a q in omega arith))
 
   -- into a form, and out of it
-  pub into_form : (a s r : List ℕ) → Form m a → Square m s → Holds m inv r (times (value m) (plain m inv a) (plain m inv s)) → Holds m inv r (value (take (length m) a))
+  pub into_form : (a s r : List ℕ) → Form f a → Square f.m s → Holds f r (times (value f.m) (element f a) (element f s)) → Holds f r (value a)
   unfolding plain
   into_form a s r of-a of-s h =
       holds_as h
-      (holds_into (value m) (4294967296 ^ length m) (shrink m inv ^ length m) (omega (arith, f.large)) (unit m inv f.modulus)
-      (value (take (length m) a)) (value (take (length m) s)) (times (value m) (plain m inv a) (plain m inv s)) of-a.below.less of-s.is refl)
+      (holds_into (value f.m) (4294967296 ^ length f.m) (shrink f.m f.inv ^ length f.m) (omega (arith, f.field.large)) (unit f.m f.inv f.field.modulus)
+      (value a) (value s) (times (value f.m) (element f a) (element f s)) of-a.less of-s.is refl)
 
-  pub out_of_form : (a r : List ℕ) → Holds m inv r (times (value m) (plain m inv a) (plain m inv ones)) → value (take (length m) r) ≡ plain m inv a
+  pub out_of_form : (a u r : List ℕ) → value u ≡ 1 → Holds f r (times (value f.m) (element f a) (element f u)) → value r ≡ element f a
   unfolding plain
-  out_of_form a r h =
-      holds_out (value m) (4294967296 ^ length m) (shrink m inv ^ length m) (omega (arith, f.large)) (unit m inv f.modulus)
-      (value (take (length m) a)) (value (take (length m) r)) h.form.below.less
-      (h.holds ∙ ap (λ (k : ℕ). times (value m) (plain m inv a) (k * shrink m inv ^ length m % value m)) (value_ones (length m) f.modulus.some))
+  out_of_form a u r one h =
+      holds_out (value f.m) (4294967296 ^ length f.m) (shrink f.m f.inv ^ length f.m) (omega (arith, f.field.large)) (unit f.m f.inv f.field.modulus)
+      (value a) (value r) h.form.less
+      (h.holds ∙ ap (λ (k : ℕ). times (value f.m) (element f a) (k * shrink f.m f.inv ^ length f.m % value f.m)) one)
 
-  module _ (t last : List ℕ) (whole : length t ≡ 8) (below : Below last m) where
-    stored : take (length m) (last ++ drop (length m) t) ≡ last
-    stored = take_at last (drop (length m) t) (length m) below.width
-
-    -- the first limbs replaced
-    pub form : Form m (last ++ drop (length m) t)
-    form =
+  module _ (t a b : List ℕ) (below : Below t f.m) (of-a : Form f a) (of-b : Form f b) where
+    pub product : value t * 4294967296 ^ length f.m % value f.m ≡ value a * value b % value f.m → Holds f t (times (value f.m) (element f a) (element f b))
+    unfolding plain
+    product e =
         record {
-          whole = omega (arith, length-append last (drop (length m) t), length-drop (length m) t, below.width, f.narrow);
-          below = rw stored below;
+          form = below;
+          holds =
+              holds_product (value f.m) (4294967296 ^ length f.m) (shrink f.m f.inv ^ length f.m) (omega (arith, of-a.less)) (unit f.m f.inv f.field.modulus)
+              (value a) (value b) (value t) e;
         }
 
-    pub plain_stored : plain m inv (last ++ drop (length m) t) ≡ value last * shrink m inv ^ length m % value m
+    pub sum : value t ≡ (value a + value b) % value f.m → Holds f t (plus (value f.m) (element f a) (element f b))
     unfolding plain
-    plain_stored = ap (λ (l : List ℕ). value l * shrink m inv ^ length m % value m) stored
+    sum e =
+        record {
+          form = below;
+          holds =
+              holds_sum (value f.m) (4294967296 ^ length f.m) (shrink f.m f.inv ^ length f.m) (omega (arith, of-a.less)) (unit f.m f.inv f.field.modulus)
+              (value a) (value b) (value t) e;
+        }
 
-    module _ (a b : List ℕ) (of-a : Form m a) (of-b : Form m b) where
-      pub product : value last * 4294967296 ^ length m % value m ≡ value (take (length m) a) * value (take (length m) b) % value m
-          → Holds m inv (last ++ drop (length m) t) (times (value m) (plain m inv a) (plain m inv b))
-      unfolding plain
-      product e =
-          record {
-            form = form;
-            holds =
-                plain_stored
-                ∙ holds_product (value m) (4294967296 ^ length m) (shrink m inv ^ length m) (omega (arith, of-a.below.less)) (unit m inv f.modulus)
-                (value (take (length m) a)) (value (take (length m) b)) (value last) e;
-          }
-
-      pub sum : value last ≡ (value (take (length m) a) + value (take (length m) b)) % value m
-          → Holds m inv (last ++ drop (length m) t) (plus (value m) (plain m inv a) (plain m inv b))
-      unfolding plain
-      sum e =
-          record {
-            form = form;
-            holds =
-                plain_stored
-                ∙ holds_sum (value m) (4294967296 ^ length m) (shrink m inv ^ length m) (omega (arith, of-a.below.less)) (unit m inv f.modulus)
-                (value (take (length m) a)) (value (take (length m) b)) (value last) e;
-          }
-
-      pub difference : value last ≡ (value (take (length m) a) + (value m - value (take (length m) b))) % value m
-          → Holds m inv (last ++ drop (length m) t) (minus (value m) (plain m inv a) (plain m inv b))
-      unfolding plain
-      difference e =
-          record {
-            form = form;
-            holds =
-                plain_stored
-                ∙ holds_difference (value m) (4294967296 ^ length m) (shrink m inv ^ length m) (omega (arith, of-a.below.less)) (unit m inv f.modulus)
-                (value (take (length m) a)) (value (take (length m) b)) (value last) of-b.below.less e;
-          }
-
-  -- less than 1 is 0, and only 0 holds 0
-  pub zero_test : (a : List ℕ) → Form m a → ltb (value (take (length m) a)) 1 ≡ eqb (plain m inv a) 0
-  unfolding plain
-  zero_test a of-a = go (dec_lt (value (take (length m) a)) 1)
-    where
-      go : Dec (value (take (length m) a) < 1) → ltb (value (take (length m) a)) 1 ≡ eqb (value (take (length m) a) * shrink m inv ^ length m % value m) 0
-      go (yes h) =
-          let none : value (take (length m) a) ≡ 0 = omega arith in
-          lt-ltb (value (take (length m) a)) 1 h
-          ∙ sym (eq-eqb _ 0 (ap (λ (k : ℕ). k * shrink m inv ^ length m % value m) none ∙ ap (λ (k : ℕ). k % value m) (zero-mul (shrink m inv ^ length m)) ∙ zero-mod (value m)))
-      go (no n) =
-          le-ltb (value (take (length m) a)) 1 (omega arith)
-          ∙ sym (ne_eqb _ 0
-          (λ e. let none = holds_zero (value m) (4294967296 ^ length m) (shrink m inv ^ length m) (omega (arith, of-a.below.less)) (unit m inv f.modulus)
-          (value (take (length m) a)) of-a.below.less e in omega arith))
+    pub difference : value t ≡ (value a + (value f.m - value b)) % value f.m → Holds f t (minus (value f.m) (element f a) (element f b))
+    unfolding plain
+    difference e =
+        record {
+          form = below;
+          holds =
+              holds_difference (value f.m) (4294967296 ^ length f.m) (shrink f.m f.inv ^ length f.m) (omega (arith, of-a.less)) (unit f.m f.inv f.field.modulus)
+              (value a) (value b) (value t) of-b.less e;
+        }

@@ -1,1 +1,2 @@
 pub mod Montgomery
+pub mod Forms

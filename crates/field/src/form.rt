@@ -1,23 +1,42 @@
 // Into Montgomery's form and out of it.
-ghost use Rattle.std.specs.Prelude.{◌≡◌, length, take};
+ghost use Rattle.std.specs.Prelude.{◌≡◌, ◌<◌};
 ghost use Rattle.limbs.specs.Limbs.{value};
-ghost use Rattle.field.specs.Montgomery.{plain, Field, Form, Holds, Square};
+ghost use Rattle.field.specs.Forms.{element, Form, Holds};
 
-use super::operation::product;
+use super::Prime;
 
-// The form that holds a number. Its factor is the power of the base above m's limbs, squared
-pub fn into(a: [u32; 8], square: [u32; 8], m: &[u32], inv: u32) -> [u32; 8]
-    requires { Field m.now inv × Form m.now a × Square m.now square }
-    ensures { Holds m.now inv result (value (take (length m.now) a)) }
-{
-    product(a, square, m, inv)
+impl<const N: usize> Prime<N> {
+    // The form that holds a number. Its factor is the power of the base above m's limbs, squared
+    pub fn form_of(&self, a: [u32; N]) -> [u32; N]
+        requires { Form self.now a }
+        ensures { Holds self.now result (value a.entry) }
+    {
+        self.product(a, self.factor)
+    }
+
+    // The number that a form holds
+    pub fn number_of(&self, a: [u32; N]) -> [u32; N]
+        requires { Form self.now a }
+        ensures { Form self.now result × (value result ≡ element self.now a.entry) }
+    {
+        self.product(a, unit())
+    }
+
+    // The form that holds 1
+    pub fn one(&self) -> [u32; N]
+        ensures { Holds self.now result 1 }
+    {
+        self.form_of(unit())
+    }
 }
 
-// The number that a form holds
-pub fn out(a: [u32; 8], m: &[u32], inv: u32) -> [u32; 8]
-    requires { Field m.now inv × Form m.now a }
-    ensures { Form m.now result × (value (take (length m.now) result) ≡ plain m.now inv a) }
+// The number 1
+#[tactic(auto, using(crate::proofs::Forms::value_unit))]
+fn unit<const N: usize>() -> [u32; N]
+    requires { 0 < N }
+    ensures { value result ≡ 1 }
 {
-    let one = [1u32, 0, 0, 0, 0, 0, 0, 0];
-    product(a, one, m, inv)
+    let mut one = [0; N];
+    one[0] = 1;
+    one
 }

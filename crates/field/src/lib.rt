@@ -1,5 +1,18 @@
 #![tactic(auto)]
-// The field of a prime m of at most 8 limbs, in Montgomery's form: what a function is said to compute is what the forms hold.
+// The field of a prime m, in Montgomery's form: what a method is said to compute is what the forms hold.
+ghost use Rattle.field.specs.Montgomery.{Field, Square};
+
 pub mod form;
 pub mod operation;
 pub mod power;
+
+// A prime m of N limbs, at most 8, with the constants of its arithmetic: Montgomery's constant, and the factor that
+// takes a number into its form.
+#[derive(Clone, Copy)]
+pub struct Prime<const N: usize> {
+    pub m: [u32; N],
+    pub inv: u32,
+    pub factor: [u32; N],
+    pub ghost field: { Field m inv },
+    pub ghost squared: { Square m factor },
+}

@@ -2,34 +2,34 @@
 ghost use Rattle.std.specs.Prelude.{◌*◌, ◌%◌, ◌^◌, ◌≤◌, length};
 ghost use Rattle.limbs.specs.Limbs.{value};
 ghost use Rattle.curve_laws.specs.Modulo as modulo;
-ghost use Rattle.field.specs.Montgomery.{Field, Form, Holds, Gives};
+ghost use Rattle.field.specs.Forms.{Form, Gives};
 
-use super::operation::{product, square};
+use super::Prime;
 use digits::bit;
 
-// One bit more: t t, and times a where the bit is 1
-fn turn(t: [u32; 8], a: [u32; 8], bit: u32, m: &[u32], inv: u32) -> [u32; 8]
-    requires { Field m.now inv × Form m.now t × Form m.now a × (bit ≤ 1) }
-    ensures { Gives m.now inv result (λ p v. v t * v t * v a ^ bit % p) }
-{
-    let twice = square(t, m, inv);
-    if bit == 0 {
-        return twice;
+impl<const N: usize> Prime<N> {
+    // One bit more: t t, and times a where the bit is 1
+    #[tactic(auto, using(crate::proofs::Powers::without, crate::proofs::Powers::with_one))]
+    fn turn(&self, t: [u32; N], a: [u32; N], bit: u32) -> [u32; N]
+        requires { Form self.now t × Form self.now a × (bit ≤ 1) }
+        ensures { Gives self.now result (λ p v. v t.entry * v t.entry * v a.entry ^ bit % p) }
+    {
+        let twice = self.square(t);
+        if bit == 0 {
+            return twice;
+        }
+        self.product(twice, a)
     }
-    product(twice, a, m, inv)
-}
 
-// a to the e. one is the form that holds 1
-pub fn power(a: [u32; 8], e: &[u32], one: [u32; 8], m: &[u32], inv: u32) -> [u32; 8]
-    requires { Field m.now inv × Form m.now a × Holds m.now inv one 1 × (length e.now ≤ 8) }
-    ensures { Gives m.now inv result (λ p v. modulo.power p (v a) (value e.now)) }
-{
-    let mut t = one;
-    let mut left = 32 * e.len();
-    while 0 < left {
-        left -= 1;
-        let next = turn(t, a, bit(e, left), m, inv);
-        t = next;
+    // a to the e
+    pub fn power(&self, a: [u32; N], e: &[u32]) -> [u32; N]
+        requires { Form self.now a × (length e.now ≤ 8) }
+        ensures { Gives self.now result (λ p v. modulo.power p (v a.entry) (value e.now)) }
+    {
+        let mut t = self.one();
+        for i in (0..32 * e.len()).rev() {
+            t = self.turn(t, a, bit(e, i));
+        }
+        t
     }
-    t
 }

@@ -10,16 +10,15 @@ use lib.Dec.{eqb, leb, ltb}
 use lib.IntN.{ℤ}
 use lib.ListN.{length, drop, length-append}
 use borrow.Author.Tests.{eqb-true, eqb-false}
+use Rattle.std.specs.Prelude.{Ok, Err}
 use Rattle.laws.specs.Answer.{Result, gives, refuses, lent_after}
 use Rattle.laws.proofs.Flags.{true_or_false, clash}
 use Rattle.sizes.specs.Sizes.{answer_room, account_key_size, highest_battery}
 use Rattle.tables.specs.Rows.{among}
-use Rattle.lent_answer.specs.declared.Ending.{Ending}
-use Rattle.lent_answer.specs.Ends.{or_refusal, end_number, number_of, Ends as Digests}
+use Rattle.lent_answer.specs.Ends.{Ending, or_refusal, end_number, number_of, Ends as Digests}
 use Rattle.unit.specs.declared.TagUnit.{TagUnit}
 use Rattle.unit.specs.declared.Sound.{Sound}
-use Rattle.unit.specs.declared.Reply.{Reply}
-use Rattle.unit.specs.declared.Reply.TheVariants.{Done, Refused}
+use Rattle.unit.specs.Types.{Reply}
 use Rattle.unit.specs.declared.Refusal.{Refusal}
 use Rattle.unit.specs.declared.Refusal.TheVariants.{NotAuthenticated, InvalidValue, NoConsent, OutOfRange, NotWellFormed, WrongNonce, WrongAccountKey, NoFrame, NoRoom}
 use Rattle.unit.specs.Refusals.{End, refusal_number, end_of, ending}
@@ -223,21 +222,21 @@ number_small NoRoom = omega arith
 pub code_small : (reply : Reply) (r : Result) (lent given : List ℕ) → end_of reply ≡ ending r → given ≡ lent_after r lent → length given ≡ length lent
     → end_code (end_of reply) ≤ length lent + 512
 unfolding lent_after
-code_small (Refused x) r lent given e a k = omega (arith, number_small x)
-code_small (Done n) (gives answer) lent given e a k =
+code_small (Err x) r lent given e a k = omega (arith, number_small x)
+code_small (Ok n) (gives answer) lent given e a k =
     let same : n ≡ length answer = cc in
     let all : length given ≡ length (answer ++ drop (length answer) lent) = ap length a in
     omega (arith, length-append answer (drop (length answer) lent))
-code_small (Done n) (refuses m) lent given e a k = let z : ◌≡◌ {A = ℕ} 0 1 = cc in omega arith
+code_small (Ok n) (refuses m) lent given e a k = let z : ◌≡◌ {A = ℕ} 0 1 = cc in omega arith
 
 -- a primitive's answer has the size that the number tells
 digest_code_lem : (ok : Bool) (digest : List ℕ) (size : ℕ) (end : Ending) → (ok ≡ true → length digest ≡ size)
     → end_number end ≡ number_of (or_refusal ok digest) → digest_code size end ≡ result_code (or_refusal ok digest)
 unfolding or_refusal
-digest_code_lem true digest size Ending.Done n e = sym (n refl)
-digest_code_lem true digest size Ending.WrongSize n e = absurd (omega arith)
-digest_code_lem false digest size Ending.Done n e = absurd (omega arith)
-digest_code_lem false digest size Ending.WrongSize n e = refl
+digest_code_lem true digest size (Ok done) n e = sym (n refl)
+digest_code_lem true digest size (Err wrong) n e = absurd (omega arith)
+digest_code_lem false digest size (Ok done) n e = absurd (omega arith)
+digest_code_lem false digest size (Err wrong) n e = refl
 
 pub exported_digest : (ok : Bool) (digest : List ℕ) {size result : ℕ} {end : Ending} {before after : List ℕ} → (ok ≡ true → length digest ≡ size)
     → Digests (or_refusal ok digest) end before after → result ≡ digest_code size end → ExportsDigest (or_refusal ok digest) result before after

@@ -2,15 +2,15 @@
 use Prim.Native.Nat.{ℕ, ◌+◌, ◌*◌}
 use mathlib.Core.Path.{◌≡◌, sym, ap, ◌∙◌}
 use native.Mathlib.Omega.{arith}
+use Rattle.std.specs.Prelude.{Ok, Err}
 use Rattle.unit.specs.declared.TagUnit.{TagUnit}
 use Rattle.unit.specs.declared.Refusal.{Refusal}
 use Rattle.unit.specs.Refusals.{refusal_number}
-use Rattle.sleep.specs.declared.Sleep.{Sleep}
-use Rattle.sleep.specs.Sleep.{Sleeps}
+use Rattle.sleep.specs.Sleep.{Sleep, Sleeps}
 use Rattle.exports.specs.Exported.{refusal_base, ended_base, ExportsSleep}
 
 module _ {u : TagUnit} {s : Sleep} (p : Sleeps u s) where
-  pub exports_until : {n : ℕ} → s ≡ Sleep.Until n → (result : ℕ) → result ≡ n * ended_base → ExportsSleep u result
+  pub exports_until : {n : ℕ} → s ≡ Ok n → (result : ℕ) → result ≡ n * ended_base → ExportsSleep u result
   exports_until {n} e result is =
       record {
         until =
@@ -21,7 +21,7 @@ module _ {u : TagUnit} {s : Sleep} (p : Sleeps u s) where
         refused = λ broken. (let told = p.refused broken in let z : ◌≡◌ {A = ℕ} 0 1 = cc in absurd (omega arith));
       }
 
-  pub exports_refused : {r : Refusal} → s ≡ Sleep.Refused r → (result : ℕ) → result ≡ refusal_base + refusal_number r → ExportsSleep u result
+  pub exports_refused : {r : Refusal} → s ≡ Err r → (result : ℕ) → result ≡ refusal_base + refusal_number r → ExportsSleep u result
   exports_refused {r} e result is =
       record {
         until =

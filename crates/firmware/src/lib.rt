@@ -14,8 +14,8 @@ ghost use Rattle.stored.specs.Record.{decoded};
 ghost use Rattle.exports.specs.Exported.{Exports, ExportsAnswer, ExportsSleep, ExportsDigest, new_in};
 
 use sizes::{BLOCK_SIZE, DIGEST_SIZE};
-use sleep::Sleep;
 use stored::RECORD_SIZE;
+use unit::Step;
 
 // A new unit in the record. Refusals: 2 for a record of another length, then 1 for settings out of range; the bytes then stay.
 #[unsafe(no_mangle)]
@@ -25,10 +25,7 @@ pub extern "C" fn tag_new(bytes: &mut [u8], power: i32, components: u32, selecta
     if bytes.len() != RECORD_SIZE {
         return exports::no_record(bytes);
     }
-    let step = tag::new_unit(power, components, selectable);
-    let after = step.unit;
-    let reply = step.reply;
-    exports::finish(bytes, after, reply)
+    exports::finish(bytes, tag::new_unit(power, components, selectable))
 }
 
 // Read: issues the lent nonce. Refusals: 6, 2, 3.
@@ -36,11 +33,8 @@ pub extern "C" fn tag_new(bytes: &mut [u8], power: i32, components: u32, selecta
 pub extern "C" fn tag_read(bytes: &mut [u8], nonce: &[u8], answer: &mut [u8]) -> u64
     ensures { ExportsAnswer (call (of.read nonce.now) (length answer.old) (decoded bytes.old)) result bytes.old bytes.new answer.old answer.new }
 {
-    let unit = stored::decode(bytes);
-    let step = tag::read(unit, nonce, answer);
-    let after = step.unit;
-    let reply = step.reply;
-    exports::finish(bytes, after, reply)
+    let step = tag::read(stored::decode(bytes), nonce, answer);
+    exports::finish(bytes, step)
 }
 
 // Write: a request of the phone's, with the mask of the parts that can be reached now. Refusals: 6, 2, 1, and then, with the nonce spent, 0x81, 0x80,
@@ -49,11 +43,8 @@ pub extern "C" fn tag_read(bytes: &mut [u8], nonce: &[u8], answer: &mut [u8]) ->
 pub extern "C" fn tag_write(bytes: &mut [u8], request: &[u8], reach: u32, answer: &mut [u8]) -> u64
     ensures { ExportsAnswer (call (of.write (record { bytes = request.now; reach = reach })) (length answer.old) (decoded bytes.entry.now)) result bytes.entry.now bytes.exit.now answer.old answer.new }
 {
-    let unit = stored::decode(bytes);
-    let step = tag::write(unit, request, reach, answer);
-    let after = step.unit;
-    let reply = step.reply;
-    exports::finish(bytes, after, reply)
+    let step = tag::write(stored::decode(bytes), request, reach, answer);
+    exports::finish(bytes, step)
 }
 
 // Button. Refusals: 6, 2.
@@ -61,11 +52,8 @@ pub extern "C" fn tag_write(bytes: &mut [u8], request: &[u8], reach: u32, answer
 pub extern "C" fn tag_button(bytes: &mut [u8], answer: &mut [u8]) -> u64
     ensures { ExportsAnswer (call of.button (length answer.old) (decoded bytes.old)) result bytes.old bytes.new answer.old answer.new }
 {
-    let unit = stored::decode(bytes);
-    let step = tag::button(unit, answer);
-    let after = step.unit;
-    let reply = step.reply;
-    exports::finish(bytes, after, reply)
+    let step = tag::button(stored::decode(bytes), answer);
+    exports::finish(bytes, step)
 }
 
 // Time: any number of tenths. Refusals: 6, 2.
@@ -73,12 +61,12 @@ pub extern "C" fn tag_button(bytes: &mut [u8], answer: &mut [u8]) -> u64
 pub extern "C" fn tag_elapsed(bytes: &mut [u8], tenths: u32, answer: &mut [u8]) -> u64
     ensures { ExportsAnswer (elapsed_of tenths (length answer.old) (decoded bytes.old)) result bytes.old bytes.new answer.old answer.new }
 {
-    let unit = stored::decode(bytes);
-    let passed = tag::elapsed(unit, tenths, answer);
-    let after = passed.unit;
-    let reply = passed.reply;
-    let code = exports::finish(bytes, after, reply);
-    exports::with_tenths(code, passed.ended)
+    let passed = tag::elapsed(stored::decode(bytes), tenths, answer);
+    let step = Step {
+        unit: passed.unit,
+        reply: passed.reply,
+    };
+    exports::with_tenths(exports::finish(bytes, step), passed.ended)
 }
 
 // The tenths until the next thing that time alone would do, 65,536 times. The record stays. Refusal: 2.
@@ -86,11 +74,9 @@ pub extern "C" fn tag_elapsed(bytes: &mut [u8], tenths: u32, answer: &mut [u8]) 
 pub extern "C" fn tag_sleep(bytes: &[u8]) -> u64
     ensures { ExportsSleep (decoded bytes.now) result }
 {
-    let unit = stored::decode(bytes);
-    let sleep = tag::sleep_until(unit);
-    match sleep {
-        Sleep::Until(tenths) => exports::with_tenths(0, tenths),
-        Sleep::Refused(refusal) => exports::refusal_code(refusal),
+    match tag::sleep_until(stored::decode(bytes)) {
+        Ok(tenths) => exports::with_tenths(0, tenths),
+        Err(refusal) => exports::refusal_code(refusal),
     }
 }
 
@@ -99,11 +85,8 @@ pub extern "C" fn tag_sleep(bytes: &[u8]) -> u64
 pub extern "C" fn tag_pairing(bytes: &mut [u8], on: u32) -> u64
     ensures { Exports (call (of.pairing (not (eqb on 0))) 0 (decoded bytes.old)) result bytes.old bytes.new }
 {
-    let unit = stored::decode(bytes);
-    let step = tag::pairing(unit, on != 0);
-    let after = step.unit;
-    let reply = step.reply;
-    exports::finish(bytes, after, reply)
+    let step = tag::pairing(stored::decode(bytes), on != 0);
+    exports::finish(bytes, step)
 }
 
 // The battery level. Refusals: 2, 1.
@@ -111,11 +94,8 @@ pub extern "C" fn tag_pairing(bytes: &mut [u8], on: u32) -> u64
 pub extern "C" fn tag_battery(bytes: &mut [u8], level: u32) -> u64
     ensures { Exports (call (of.battery level) 0 (decoded bytes.old)) result bytes.old bytes.new }
 {
-    let unit = stored::decode(bytes);
-    let step = tag::battery(unit, level);
-    let after = step.unit;
-    let reply = step.reply;
-    exports::finish(bytes, after, reply)
+    let step = tag::battery(stored::decode(bytes), level);
+    exports::finish(bytes, step)
 }
 
 // Adds an account key. Refusals: 2, 4.
@@ -123,11 +103,8 @@ pub extern "C" fn tag_battery(bytes: &mut [u8], level: u32) -> u64
 pub extern "C" fn tag_account_key(bytes: &mut [u8], key: &[u8]) -> u64
     ensures { Exports (call (of.account_key key.now) 0 (decoded bytes.old)) result bytes.old bytes.new }
 {
-    let unit = stored::decode(bytes);
-    let step = tag::account_key(unit, key);
-    let after = step.unit;
-    let reply = step.reply;
-    exports::finish(bytes, after, reply)
+    let step = tag::account_key(stored::decode(bytes), key);
+    exports::finish(bytes, step)
 }
 
 // The phone has hung up: brings a waiting identity key into force. Refusal: 2.
@@ -135,11 +112,8 @@ pub extern "C" fn tag_account_key(bytes: &mut [u8], key: &[u8]) -> u64
 pub extern "C" fn tag_disconnect(bytes: &mut [u8]) -> u64
     ensures { Exports (call of.disconnect 0 (decoded bytes.old)) result bytes.old bytes.new }
 {
-    let unit = stored::decode(bytes);
-    let step = tag::disconnect(unit);
-    let after = step.unit;
-    let reply = step.reply;
-    exports::finish(bytes, after, reply)
+    let step = tag::disconnect(stored::decode(bytes));
+    exports::finish(bytes, step)
 }
 
 // The advertised frame. Refusals: 6, 2, 5.
@@ -147,11 +121,8 @@ pub extern "C" fn tag_disconnect(bytes: &mut [u8]) -> u64
 pub extern "C" fn tag_frame(bytes: &mut [u8], answer: &mut [u8]) -> u64
     ensures { ExportsAnswer (call of.frame (length answer.old) (decoded bytes.old)) result bytes.old bytes.new answer.old answer.new }
 {
-    let unit = stored::decode(bytes);
-    let step = tag::advertise(unit, answer);
-    let after = step.unit;
-    let reply = step.reply;
-    exports::finish(bytes, after, reply)
+    let step = tag::advertise(stored::decode(bytes), answer);
+    exports::finish(bytes, step)
 }
 
 // Reads a frame, of this tag or another: its identifier, protection, flags byte, in 23 bytes. Refusals: 6 for fewer, 8.

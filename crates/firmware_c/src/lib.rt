@@ -1,5 +1,6 @@
 #![tactic(auto)]
 // The archive for a host in C or Rust: each call of the library `firmware` under its own name, with what it promises there. include/tag.h declares them.
+// Kept: the C interface: it stands beside `firmware` with the same names, since C links these and a library exports none.
 ghost use Rattle.std.specs.Prelude.{not, eqb, length};
 ghost use Rattle.hash_calls.specs.Calls.{hashed, authenticated};
 ghost use Rattle.cipher_calls.specs.Calls.{encrypted, decrypted, encrypted256};

@@ -11,22 +11,12 @@ use sizes::{DIGEST_SIZE, FRAME_FLAGS_AT, FRAME_IDENTIFIER_AT, IDENTIFIER_SIZE, L
 // The last byte of SHA-256 of r, which hides the flags byte.
 pub const MASK_AT: usize = DIGEST_SIZE - 1;
 
-// The hashed flags byte of a frame, where there is one.
-#[derive(Clone, Copy)]
-pub enum Flags {
-    LeftOut,
-    Shown(u8),
-}
-
 // The flags byte before and after it is hidden: battery times 2 plus protection, and that with the last byte of SHA-256 of r.
 fn plain_flags(battery: u8, on: bool) -> u8
     requires { battery ≤ highest_battery }
     ensures { result ≡ flags_before_xor battery on }
 {
-    if on {
-        return battery * 2 + 1;
-    }
-    battery * 2
+    battery * 2 + u8::from(on)
 }
 
 fn hidden_flags(battery: u8, on: bool, r: [u8; IDENTIFIER_SIZE]) -> u8
@@ -39,25 +29,23 @@ fn hidden_flags(battery: u8, on: bool, r: [u8; IDENTIFIER_SIZE]) -> u8
 }
 
 // The flags byte, left out where battery and protection are both 0.
-pub fn flags_for(battery: u8, on: bool, r: [u8; IDENTIFIER_SIZE]) -> Flags
+#[tactic(auto, unfolding(crate::specs::Frame::flags_for))]
+pub fn flags_for(battery: u8, on: bool, r: [u8; IDENTIFIER_SIZE]) -> Option<u8>
     requires { battery ≤ highest_battery }
     ensures { result ≡ flags_for battery on r }
 {
-    if on {
-        return Flags::Shown(hidden_flags(battery, on, r));
+    if battery == 0 && !on {
+        return None;
     }
-    if battery == 0 {
-        return Flags::LeftOut;
-    }
-    Flags::Shown(hidden_flags(battery, on, r))
+    Some(hidden_flags(battery, on, r))
 }
 
-fn length_byte(flags: Flags) -> u8
+fn length_byte(flags: Option<u8>) -> u8
     ensures { result ≡ length_byte identifier_size flags }
 {
     match flags {
-        Flags::LeftOut => 0x18,
-        Flags::Shown(_) => 0x19,
+        None => 0x18,
+        Some(_) => 0x19,
     }
 }
 
@@ -69,7 +57,7 @@ fn kind_byte(on: bool) -> u8
 }
 
 // Writes a frame of an identifier, the protection bit and the flags byte. Gives the number of bytes written.
-pub fn render(id: [u8; IDENTIFIER_SIZE], on: bool, flags: Flags, answer: &mut [u8]) -> usize
+pub fn render(id: [u8; IDENTIFIER_SIZE], on: bool, flags: Option<u8>, answer: &mut [u8]) -> usize
     requires { answer_room ≤ length answer.old }
     ensures { Wrote (rendered identifier_size id on flags) result answer.old answer.new }
 {
@@ -79,10 +67,9 @@ pub fn render(id: [u8; IDENTIFIER_SIZE], on: bool, flags: Flags, answer: &mut [u
     octets::put(answer, 0, &head);
     octets::put(answer, FRAME_IDENTIFIER_AT, &id);
     match flags {
-        Flags::LeftOut => FRAME_FLAGS_AT,
-        Flags::Shown(byte) => {
-            let last = [byte];
-            octets::put(answer, FRAME_FLAGS_AT, &last);
+        None => FRAME_FLAGS_AT,
+        Some(byte) => {
+            octets::put(answer, FRAME_FLAGS_AT, &[byte]);
             LONGEST_FRAME
         }
     }

@@ -1,13 +1,13 @@
 -- The first wrong byte, whatever a frame is: there is at most one, and in a frame none, as long as no frame begins another.
-use Prim.Native.Nat.{ℕ, ◌+◌, ◌-◌, ◌≤◌, ◌<◌}
-use mathlib.Core.Path.{◌≡◌, refl, sym, ap, ◌∙◌}
-use mathlib.Core.Logic.{◌⊎◌, inl, inr}
+use Prim.Native.Nat.{ℕ, ◌+◌, ◌≤◌, ◌<◌}
+use mathlib.Core.Path.{◌≡◌, sym, ◌∙◌}
+use mathlib.Core.Logic.{inl, inr}
 use mathlib.Core.List.{List, [], ◌++◌, append_assoc, append-nil}
 use native.Mathlib.Omega.{arith}
 use native.Mathlib.Decide.{dec_lt}
-use lib.ListN.{length, take, drop, take-append-drop}
+use lib.ListN.{take, drop, take-append-drop}
 use lib.Seq.{take-take}
-use Rattle.frame_laws.specs.ReadBack.{Begins, WrongInside, CutShort, FirstWrongAt}
+use Rattle.frame_laws.specs.ReadBack.{Begins, WrongInside, FirstWrongAt}
 
 module _ (Frame : List ℕ → Type 0) (text : List ℕ) where
   -- a beginning of a beginning begins a frame too, and so does one of the text where more behind it makes a frame

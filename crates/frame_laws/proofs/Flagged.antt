@@ -1,6 +1,7 @@
 -- The flags byte under r: of the bytes that pass the reader's tests, each is the writer's for one battery level, and the other way round.
-use Prim.Native.Nat.{ℕ, zero, suc, ◌+◌, ◌*◌, ◌/◌, ◌%◌, ◌≤◌, ◌<◌}
-use mathlib.Core.Path.{◌≡◌, refl, sym, ap, ◌∙◌}
+use Rattle.std.specs.Prelude.{None, Some}
+use Prim.Native.Nat.{ℕ, zero, suc, ◌+◌, ◌*◌, ◌/◌, ◌%◌, ◌≤◌}
+use mathlib.Core.Path.{◌≡◌, refl}
 use mathlib.Core.Bool.{Bool, true, false, cond, not, ◌&&◌}
 use mathlib.Core.List.{List}
 use native.Mathlib.Omega.{arith}
@@ -9,10 +10,9 @@ use lib.Bits.{bit_xor}
 use borrow.Author.Tests.{eqb-true, eq-eqb, not-true}
 use Rattle.laws.proofs.Flags.{and_left, and_right, and_fails_right}
 use Rattle.laws.proofs.Xor.{xor_cancel}
-use Rattle.frame.specs.declared.Flags.{Flags}
 use Rattle.frame.specs.Frame.{flags_before_xor, flags_mask, flags_for}
 use Rattle.frame_reader.specs.Reader.{Parts, reads}
-use Rattle.frame_opener.specs.Opener.{unmasked, protection_bit, battery_level, reserved_bits, flags_right, opened_by}
+use Rattle.frame_opener.specs.Opener.{protection_bit, battery_level, flags_right, opened_by}
 
 -- a level that shows a flags byte is found again in it, and it passes the tests
 shown_right : (battery : ℕ) (on : Bool) → battery ≤ 3 → eqb battery 0 && not on ≡ false
@@ -58,7 +58,7 @@ opens r size p battery h = go (eqb battery 0 && not p.protected) refl
     f = flags_before_xor battery p.protected
 
     go : (s : Bool) → eqb battery 0 && not p.protected ≡ s
-        → opened_by r size p (cond s Flags.LeftOut (Flags.Shown (bit_xor f (flags_mask r)))) ≡ reads (record { parts = p; battery = battery })
+        → opened_by r size p (cond s None (Some (bit_xor f (flags_mask r)))) ≡ reads (record { parts = p; battery = battery })
     go true e = let none : battery ≡ 0 = eqb-true battery 0 (and_left (eqb battery 0) (not p.protected) e) in rw none
     go false e =
         let right = shown_right battery p.protected h e in

@@ -1,23 +1,20 @@
 -- The first wrong byte is where the text stops to begin a frame: a beginning of the text begins a frame exactly if it does not reach beyond that
 -- place. It begins the frame that the text claims; and where it begins any, that frame's bytes are the claimed one's up to there.
+use Rattle.std.specs.Prelude.{Option, None, Some}
 use Prim.Native.Nat.{ℕ, zero, suc, ◌+◌, ◌-◌, ◌≤◌, ◌<◌}
 use mathlib.Core.Path.{◌≡◌, refl, sym, ap, ◌∙◌}
-use mathlib.Core.Logic.{◌⊎◌, inl, inr}
 use mathlib.Core.Bool.{Bool, true, false, cond, ◌&&◌, ◌||◌}
-use mathlib.Core.List.{List, [], ◌∷◌, ◌++◌, append-nil}
+use mathlib.Core.List.{List, [], ◌∷◌, ◌++◌}
 use native.Mathlib.Omega.{arith}
 use native.Mathlib.Decide.{dec_lt}
 use lib.Dec.{eqb}
 use lib.ListN.{length, get_or, take, drop, length-append, take-append-drop, get_or-append}
-use lib.Seq.{length-take-le, take_all, get_or-take}
+use lib.Seq.{length-take-le, get_or-take}
 use borrow.Author.Tests.{eqb-true, eq-eqb, ne_eqb}
-use Rattle.laws.specs.Bytes.{same_bytes}
-use Rattle.laws.proofs.Flags.{or_left, or_right, both, clash}
-use Rattle.laws.proofs.Same.{equal_same}
-use Rattle.frame.specs.declared.Flags.{Flags}
+use Rattle.laws.proofs.Flags.{or_left, or_right, both}
 use Rattle.frame.specs.Frame.{rendered, length_byte}
 use Rattle.frame_reader.specs.Reader.{Parts, frame_of, says_flags, claimed, claimed_frame, first_wrong}
-use Rattle.frame_laws.specs.ReadBack.{Sendable, FrameOf, IsFrame, Begins}
+use Rattle.frame_laws.specs.ReadBack.{FrameOf, IsFrame, Begins}
 use Rattle.frame_reader.proofs.Common.{same_below_lem, reaches}
 use Rattle.frame_reader.proofs.Claims.{behind_head, length_flagged, length_bare}
 use Rattle.frame_reader.proofs.Head.{length_right, kind_right}
@@ -47,15 +44,15 @@ module _ (size : ℕ) (text : List ℕ) (i : ℕ) (reached : i ≤ length text) 
   unfolding rendered
   kind_byte h = at 7 h
 
-  shows : 3 < i → (flags : Flags) → p.flags ≡ flags → (eqb (get_or text 3 0) (size + 4) || says_flags size text) ≡ true
-  shows h Flags.LeftOut e = or_left _ (eq-eqb (get_or text 3 0) (size + 4) (rw e at (length_byte_lem h)))
-  shows h (Flags.Shown b) e = or_right (eqb (get_or text 3 0) (size + 4)) (eq-eqb (get_or text 3 0) (size + 5) (rw e at (length_byte_lem h)))
+  shows : 3 < i → (flags : Option ℕ) → p.flags ≡ flags → (eqb (get_or text 3 0) (size + 4) || says_flags size text) ≡ true
+  shows h None e = or_left _ (eq-eqb (get_or text 3 0) (size + 4) (rw e at (length_byte_lem h)))
+  shows h (Some b) e = or_right (eqb (get_or text 3 0) (size + 4)) (eq-eqb (get_or text 3 0) (size + 5) (rw e at (length_byte_lem h)))
 
-  protects : 7 < i → (on : Bool) → p.protected ≡ on → (flags : Flags) → p.flags ≡ flags
+  protects : 7 < i → (on : Bool) → p.protected ≡ on → (flags : Option ℕ) → p.flags ≡ flags
       → (eqb (get_or text 7 0) 0x40 || (eqb (get_or text 7 0) 0x41 && says_flags size text)) ≡ true
   protects h false e flags g = or_left _ (eq-eqb (get_or text 7 0) 0x40 (rw e at (kind_byte h)))
-  protects h true e Flags.LeftOut g = absurd (f.sendable.shown e g)
-  protects h true e (Flags.Shown b) g =
+  protects h true e None g = absurd (f.sendable.shown e g)
+  protects h true e (Some b) g =
       or_right (eqb (get_or text 7 0) 0x40)
       (both (eq-eqb (get_or text 7 0) 0x41 (rw e at (kind_byte h))) (eq-eqb (get_or text 3 0) (size + 5) (rw g at (length_byte_lem (omega arith)))))
 
@@ -78,11 +75,11 @@ module _ (size : ℕ) (text : List ℕ) (i : ℕ) (reached : i ≤ length text) 
   unfolding rendered
   as_long h = go p.flags refl
     where
-      go : (flags : Flags) → p.flags ≡ flags → length (claimed_frame size text) ≡ length (frame_of size p)
-      go Flags.LeftOut e =
+      go : (flags : Option ℕ) → p.flags ≡ flags → length (claimed_frame size text) ≡ length (frame_of size p)
+      go None e =
           let bare = length_bare size text (ne_eqb (get_or text 3 0) (size + 5) (λ q. omega (arith, rw e at (length_byte_lem h)))) in
           rw e (omega (arith, bare, length-append p.identifier [], f.sendable.sized))
-      go (Flags.Shown b) e =
+      go (Some b) e =
           let flagged = length_flagged size text (eq-eqb (get_or text 3 0) (size + 5) (rw e at (length_byte_lem h))) in
           rw e (omega (arith, flagged, length-append p.identifier (b ∷ []), f.sendable.sized))
 

@@ -1,13 +1,12 @@
 -- The reader matches the writer: both round trips, and refused exactly at the first wrong byte.
 use Prim.Native.Nat.{ℕ, ◌+◌, ◌≤◌, ◌<◌}
-use mathlib.Core.Path.{◌≡◌, refl, sym, ap, ◌∙◌}
+use mathlib.Core.Path.{◌≡◌, refl, ap, ◌∙◌}
 use mathlib.Core.Logic.{◌⊎◌, inl, inr}
 use mathlib.Core.Bool.{Bool, true, false, cond}
 use mathlib.Core.List.{List, [], ◌∷◌, ◌++◌, append-nil}
 use native.Mathlib.Omega.{arith}
 use native.Mathlib.Decide.{dec_lt}
-use lib.Dec.{eqb}
-use lib.ListN.{length, get_or, take, drop, length-append, get_or-append}
+use lib.ListN.{length, get_or, take, length-append, get_or-append}
 use lib.Seq.{take_all}
 use Rattle.laws.specs.Bytes.{same_bytes}
 use Rattle.laws.proofs.Flags.{true_or_false}
@@ -17,7 +16,7 @@ use Rattle.frame_laws.specs.ReadBack.{IsFrame, Begins, FirstWrongAt, ReadBack}
 use Rattle.frame_reader.proofs.Claims.{wrong_within, length_flagged, length_bare}
 use Rattle.frame_reader.proofs.Whole.{read_whole, read_long}
 use Rattle.frame_laws.proofs.FirstWrong.{one_place, none_in_a_frame}
-use Rattle.frame_laws.proofs.RoundTrip.{written_reads_lem, read_written_lem, frame_reads, claimed_is_frame}
+use Rattle.frame_laws.proofs.RoundTrip.{written_reads_lem, read_written_lem, frame_reads}
 use Rattle.frame_laws.proofs.Place.{begins_claimed, not_beyond}
 
 -- no frame begins another: the length byte says how long it is

@@ -1,7 +1,8 @@
 -- Both ways between frames and their parts: what the writer makes of parts claims just these parts, so that it reads; and what a text claims are
 -- parts that the writer takes.
+use Rattle.std.specs.Prelude.{Option, None, Some}
 use Prim.Native.Nat.{ℕ, ◌+◌}
-use mathlib.Core.Path.{◌≡◌, refl, sym, ap, ◌∙◌}
+use mathlib.Core.Path.{◌≡◌, refl, sym, ◌∙◌}
 use mathlib.Core.Bool.{Bool, true, false, cond, ◌&&◌}
 use mathlib.Core.List.{List, [], ◌∷◌, ◌++◌, append_assoc}
 use native.Mathlib.Omega.{arith}
@@ -9,9 +10,7 @@ use lib.Dec.{eqb}
 use lib.ListN.{length, get_or, take, drop, replicate}
 use lib.Seq.{take_at, get_or_at, get_or-drop}
 use borrow.Author.Tests.{eq-eqb, ne_eqb}
-use Rattle.laws.specs.Bytes.{same_bytes}
 use Rattle.laws.proofs.Same.{equal_same}
-use Rattle.frame.specs.declared.Flags.{Flags}
 use Rattle.frame.specs.Frame.{rendered}
 use Rattle.frame_reader.specs.Reader.{Parts, reads, frame_of, says_flags, claimed, claimed_frame, read_frame}
 use Rattle.frame_laws.specs.ReadBack.{Sendable, FrameOf, IsFrame}
@@ -22,15 +21,15 @@ use Rattle.frame_reader.proofs.Whole.{read_whole}
 room : (size : ℕ) (id more : List ℕ) → length id ≡ size → take size ((id ++ more) ++ replicate size 0) ≡ id
 room size id more e = rw append_assoc (take_at id (more ++ replicate size 0) size e)
 
-claims_written : (size : ℕ) (id : List ℕ) (on : Bool) (flags : Flags) → length id ≡ size → (on ≡ true → flags ≡ Flags.LeftOut → ⊥)
+claims_written : (size : ℕ) (id : List ℕ) (on : Bool) (flags : Option ℕ) → length id ≡ size → (on ≡ true → flags ≡ None → ⊥)
     → claimed size (rendered size id on flags) ≡ record { identifier = id; protected = on; flags = flags }
 unfolding claimed rendered
-claims_written size id true Flags.LeftOut e h = absurd (h refl refl)
-claims_written size id false Flags.LeftOut e h =
+claims_written size id true None e h = absurd (h refl refl)
+claims_written size id false None e h =
     rw (ne_eqb (size + 4) (size + 5) (λ n. omega arith), room size id [] e)
-claims_written size id on (Flags.Shown b) e h =
-    let last : get_or (rendered size id on (Flags.Shown b)) (8 + size) 0 ≡ b
-    = sym (get_or-drop 8 (rendered size id on (Flags.Shown b)) size 0) ∙ get_or_at id b [] 0 size e in
+claims_written size id on (Some b) e h =
+    let last : get_or (rendered size id on (Some b)) (8 + size) 0 ≡ b
+    = sym (get_or-drop 8 (rendered size id on (Some b)) size 0) ∙ get_or_at id b [] 0 size e in
     rw (eq-eqb (size + 5) (size + 5) refl, room size id (b ∷ []) e, last, kind on)
   where
     kind : (on : Bool) → eqb (cond on 0x41 0x40) 0x41 ≡ on
@@ -49,7 +48,7 @@ unfolding claimed
 claims_sendable size text =
     record { sized = length_filled size (drop 8 text); shown = λ on none. protected_shows (says_flags size text) _ on none }
   where
-    protected_shows : (s k : Bool) → s && k ≡ true → cond s (Flags.Shown (get_or text (8 + size) 0)) Flags.LeftOut ≡ Flags.LeftOut → ⊥
+    protected_shows : (s k : Bool) → s && k ≡ true → cond s (Some (get_or text (8 + size) 0)) None ≡ None → ⊥
     protected_shows true k on none = let z : ◌≡◌ {A = ℕ} 0 1 = cc in omega arith
     protected_shows false k on none = let z : ◌≡◌ {A = ℕ} 0 1 = cc in omega arith
 

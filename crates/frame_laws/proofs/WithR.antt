@@ -1,24 +1,23 @@
 -- With r: a frame of this r reads to its battery level, what reads is one, and of a text that reads the flags byte is the first wrong byte where
 -- it is no level's, since another byte in its place makes a frame of this r.
-use Prim.Native.Nat.{ℕ, ◌+◌, ◌≤◌, ◌<◌}
+use Rattle.std.specs.Prelude.{Option, None, Some}
+use Prim.Native.Nat.{ℕ, ◌+◌, ◌≤◌}
 use mathlib.Core.Path.{◌≡◌, refl, sym, ap, ◌∙◌}
-use mathlib.Core.Logic.{◌⊎◌, inl, inr}
-use mathlib.Core.Bool.{Bool, true, false, cond, not, ◌&&◌}
+use mathlib.Core.Logic.{inl}
+use mathlib.Core.Bool.{Bool, true, false, cond, not}
 use mathlib.Core.List.{List, [], ◌∷◌, ◌++◌, append-nil}
 use native.Mathlib.Omega.{arith}
-use native.Mathlib.Decide.{dec_lt}
 use lib.Dec.{eqb}
 use lib.ListN.{length, take, length-append}
 use lib.Seq.{take_all, take_at}
 use lib.Bits.{bit_xor}
 use borrow.Author.Tests.{eqb-true, eq-eqb, ne_eqb}
-use Rattle.laws.proofs.Flags.{true_or_false, and_fails_right}
+use Rattle.laws.proofs.Flags.{and_fails_right}
 use Rattle.laws.proofs.Xor.{xor_cancel}
-use Rattle.frame.specs.declared.Flags.{Flags}
-use Rattle.frame.specs.Frame.{rendered, flags_mask, flags_for, flags_before_xor}
-use Rattle.frame_reader.specs.Reader.{Parts, Reading, reads, refused, frame_of, read_frame}
+use Rattle.frame.specs.Frame.{rendered, flags_mask, flags_for}
+use Rattle.frame_reader.specs.Reader.{Parts, Reading, reads, refused, read_frame}
 use Rattle.frame_opener.specs.Opener.{Opened, read_frame_with_r, with_r, opened_by, unmasked, flags_right, battery_level}
-use Rattle.frame_laws.specs.ReadBack.{Sendable, FrameOf, FrameWithR, IsFrame, IsFrameWithR, Begins, WrongInside, FirstWrongAt, ReadBackWithR}
+use Rattle.frame_laws.specs.ReadBack.{Sendable, FrameOf, FrameWithR, IsFrameWithR, WrongInside, FirstWrongAt, ReadBackWithR}
 use Rattle.frame_laws.proofs.FirstWrong.{one_place, none_in_a_frame}
 use Rattle.frame_laws.proofs.RoundTrip.{read_written_lem, frame_reads}
 use Rattle.frame_laws.proofs.ReadBack.{apart}
@@ -40,7 +39,7 @@ module _ (size : ℕ) (r : List ℕ) where
   then_flags text p e h = rw (e, eq-eqb (length r) size h)
 
   -- the flags byte of a level is never left out under protection
-  level_shown : (battery : ℕ) (on : Bool) → on ≡ true → flags_for battery on r ≡ Flags.LeftOut → ⊥
+  level_shown : (battery : ℕ) (on : Bool) → on ≡ true → flags_for battery on r ≡ None → ⊥
   unfolding flags_for
   level_shown battery on t e =
       let shown = rw (and_fails_right (eqb battery 0) (ap not t)) at e in
@@ -65,25 +64,25 @@ module _ (size : ℕ) (r : List ℕ) where
       })
 
   -- what r opens is a frame of this r
-  left_out : (on : Bool) → (on ≡ true → ⊥) → Flags.LeftOut ≡ flags_for 0 on r
+  left_out : (on : Bool) → (on ≡ true → ⊥) → None ≡ flags_for 0 on r
   unfolding flags_for
   left_out true h = absurd (h refl)
   left_out false h = refl
 
   shown : (on : Bool) (b : ℕ) → flags_right on (unmasked r b) ≡ true
-      → (battery_level (unmasked r b) ≤ 3) × (Flags.Shown b ≡ flags_for (battery_level (unmasked r b)) on r)
+      → (battery_level (unmasked r b) ≤ 3) × (Some b ≡ flags_for (battery_level (unmasked r b)) on r)
   unfolding flags_for
   shown on b e =
       let level = right_level on (unmasked r b) e in
-      (level.0, rw (level.2, ← level.1) (ap Flags.Shown (sym (xor_cancel b (flags_mask r)))))
+      (level.0, rw (level.2, ← level.1) (ap Some (sym (xor_cancel b (flags_mask r)))))
 
-  opened : (p : Parts) (flags : Flags) → p.flags ≡ flags → Sendable size p → (o : Opened) → opened_by r size p flags ≡ reads o
+  opened : (p : Parts) (flags : Option ℕ) → p.flags ≡ flags → Sendable size p → (o : Opened) → opened_by r size p flags ≡ reads o
       → (p ≡ o.parts) × (o.battery ≤ 3) × (p.flags ≡ flags_for o.battery p.protected r)
   unfolding opened_by
-  opened p Flags.LeftOut e s o q =
+  opened p None e s o q =
       let level : 0 ≡ o.battery = cc in
       (cc, omega arith, e ∙ rw (← level) (left_out p.protected (λ on. s.shown on e)))
-  opened p (Flags.Shown b) e s o q = go (flags_right p.protected (unmasked r b)) refl q
+  opened p (Some b) e s o q = go (flags_right p.protected (unmasked r b)) refl q
     where
       go : (t : Bool) → flags_right p.protected (unmasked r b) ≡ t
           → cond t (reads (record { parts = p; battery = battery_level (unmasked r b) })) (refused 8 (8 + size)) ≡ reads o
@@ -110,20 +109,20 @@ module _ (size : ℕ) (r : List ℕ) where
       go (refused number place) f q = let z : ◌≡◌ {A = ℕ} 0 1 = cc in absurd (omega arith)
 
   -- the other way: what r refuses of a frame is its flags byte, and another in its place makes a frame of this r
-  not_opened : (p : Parts) (flags : Flags) → p.flags ≡ flags → (number place : ℕ) → opened_by r size p flags ≡ refused number place
-      → (number ≡ 8) × (place ≡ 8 + size) × ((b : ℕ) × (p.flags ≡ Flags.Shown b))
+  not_opened : (p : Parts) (flags : Option ℕ) → p.flags ≡ flags → (number place : ℕ) → opened_by r size p flags ≡ refused number place
+      → (number ≡ 8) × (place ≡ 8 + size) × ((b : ℕ) × (p.flags ≡ Some b))
   unfolding opened_by
-  not_opened p Flags.LeftOut e number place q = let z : ◌≡◌ {A = ℕ} 0 1 = cc in absurd (omega arith)
-  not_opened p (Flags.Shown b) e number place q = go (flags_right p.protected (unmasked r b)) q
+  not_opened p None e number place q = let z : ◌≡◌ {A = ℕ} 0 1 = cc in absurd (omega arith)
+  not_opened p (Some b) e number place q = go (flags_right p.protected (unmasked r b)) q
     where
       go : (t : Bool)
           → cond {A = Reading Opened} t (reads (record { parts = p; battery = battery_level (unmasked r b) })) (refused 8 (8 + size)) ≡ refused number place
-          → (number ≡ 8) × (place ≡ 8 + size) × ((c : ℕ) × (p.flags ≡ Flags.Shown c))
+          → (number ≡ 8) × (place ≡ 8 + size) × ((c : ℕ) × (p.flags ≡ Some c))
       go true q = let z : ◌≡◌ {A = ℕ} 0 1 = cc in absurd (omega arith)
       go false q = (cc, cc, (b, e))
 
   -- a flags byte of this r under each protection
-  some_level : (on : Bool) → (battery : ℕ) × (b : ℕ) × (battery ≤ 3) × (flags_for battery on r ≡ Flags.Shown b)
+  some_level : (on : Bool) → (battery : ℕ) × (b : ℕ) × (battery ≤ 3) × (flags_for battery on r ≡ Some b)
   unfolding flags_for
   some_level true = (0, bit_xor 1 (flags_mask r), omega arith, refl)
   some_level false = (1, bit_xor 2 (flags_mask r), omega arith, refl)
@@ -132,11 +131,11 @@ module _ (size : ℕ) (r : List ℕ) where
   front id on = 0x02 ∷ 0x01 ∷ 0x06 ∷ (size + 5) ∷ 0x16 ∷ 0xAA ∷ 0xFE ∷ cond on 0x41 0x40 ∷ id
 
   before_flags : (id : List ℕ) (on : Bool) (b c : ℕ) → length id ≡ size
-      → take (8 + size) (rendered size id on (Flags.Shown b)) ++ (c ∷ []) ≡ rendered size id on (Flags.Shown c)
+      → take (8 + size) (rendered size id on (Some b)) ++ (c ∷ []) ≡ rendered size id on (Some c)
   unfolding rendered front
   before_flags id on b c e = ap (λ (l : List ℕ). l ++ (c ∷ [])) (take_at (front id on) (b ∷ []) (8 + size) (omega arith))
 
-  length_shown : (id : List ℕ) (on : Bool) (b : ℕ) → length id ≡ size → length (rendered size id on (Flags.Shown b)) ≡ 8 + size + 1
+  length_shown : (id : List ℕ) (on : Bool) (b : ℕ) → length id ≡ size → length (rendered size id on (Some b)) ≡ 8 + size + 1
   unfolding rendered
   length_shown id on b e = omega (arith, length-append id (b ∷ []))
 
@@ -158,10 +157,10 @@ module _ (size : ℕ) (r : List ℕ) where
       where
         opened_to : ℕ → ℕ → Opened
         opened_to battery c =
-            record { parts = record { identifier = p.identifier; protected = p.protected; flags = Flags.Shown c }; battery = battery }
+            record { parts = record { identifier = p.identifier; protected = p.protected; flags = Some c }; battery = battery }
 
-        of_level : (battery c : ℕ) → battery ≤ 3 → flags_for battery p.protected r ≡ Flags.Shown c
-            → FrameWithR size r (opened_to battery c) (rendered size p.identifier p.protected (Flags.Shown c))
+        of_level : (battery c : ℕ) → battery ≤ 3 → flags_for battery p.protected r ≡ Some c
+            → FrameWithR size r (opened_to battery c) (rendered size p.identifier p.protected (Some c))
         of_level battery c h s =
             record {
               frame = record {
@@ -178,13 +177,13 @@ module _ (size : ℕ) (r : List ℕ) where
             let z : ◌≡◌ {A = ℕ} 0 1 = cc in
             omega arith
 
-        there : (b : ℕ) → p.flags ≡ Flags.Shown b → WrongInside (IsFrameWithR size r) text (8 + size)
+        there : (b : ℕ) → p.flags ≡ Some b → WrongInside (IsFrameWithR size r) text (8 + size)
         there b s =
-            let whole : text ≡ rendered size p.identifier p.protected (Flags.Shown b) = rw s at frame.written in
+            let whole : text ≡ rendered size p.identifier p.protected (Some b) = rw s at frame.written in
             let long : length text ≡ 8 + size + 1
             = rw whole (length_shown p.identifier p.protected b frame.sendable.sized) in
             let other = some_level p.protected in
-            let same : take (8 + size) text ++ (other.1 ∷ []) ≡ rendered size p.identifier p.protected (Flags.Shown other.1)
+            let same : take (8 + size) text ++ (other.1 ∷ []) ≡ rendered size p.identifier p.protected (Some other.1)
             = rw whole (before_flags p.identifier p.protected b other.1 frame.sendable.sized) in
             record {
               inside = omega arith;

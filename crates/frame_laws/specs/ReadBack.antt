@@ -1,7 +1,7 @@
 -- "We want the reader that matches the writer": both round trips, and the first wrong byte without an algorithm, over the identifier's length.
 -- Proved in proofs/ReadBack.
+use Rattle.std.specs.Prelude.{None}
 use Rattle.std.specs.Prelude.{ℕ, ◌+◌, ◌≤◌, ◌<◌, ◌≡◌, ◌⊎◌, Bool, true, List, [], ◌++◌, length, take}
-use Rattle.frame.specs.declared.Flags.{Flags}
 use Rattle.frame.specs.Frame.{rendered, flags_for}
 use Rattle.frame_reader.specs.Reader.{Parts, reads, refused, wrong_byte, frame_of, read_frame}
 use Rattle.frame_opener.specs.Opener.{Opened, wrong_size, read_frame_with_r}
@@ -9,7 +9,7 @@ use Rattle.frame_opener.specs.Opener.{Opened, wrong_size, read_frame_with_r}
 -- The parts of which the writer makes frames: any identifier of `size` bytes, any flags byte, and "our writer never omits flags under protection"
 pub record Sendable (size : ℕ) (p : Parts) : Type 0 where
   pub sized : length p.identifier ≡ size
-  pub shown : p.protected ≡ true → p.flags ≡ Flags.LeftOut → ⊥
+  pub shown : p.protected ≡ true → p.flags ≡ None → ⊥
 
 -- a frame is what the writer makes of such parts; a frame of this r, what it makes of them with the flags byte of a battery level
 pub record FrameOf (size : ℕ) (p : Parts) (text : List ℕ) : Type 0 where

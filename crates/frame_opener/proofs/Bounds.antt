@@ -1,4 +1,5 @@
 -- The place of a wrong byte, with r too, is at most the length of a frame with its flags byte.
+use Rattle.std.specs.Prelude.{Option, None, Some}
 use Prim.Native.Nat.{ℕ, ◌+◌, ◌≤◌}
 use mathlib.Core.Path.{◌≡◌, refl}
 use mathlib.Core.Bool.{Bool, true, false, cond}
@@ -6,7 +7,6 @@ use mathlib.Core.List.{List}
 use native.Mathlib.Omega.{arith}
 use lib.Dec.{eqb}
 use lib.ListN.{length}
-use Rattle.frame.specs.declared.Flags.{Flags}
 use Rattle.frame_reader.specs.Reader.{Parts, Reading, reads, refused, read_frame}
 use Rattle.frame_reader.proofs.Bounds.{place_small}
 use Rattle.frame_opener.specs.Opener.{Opened, read_frame_with_r, with_r, opened_by, unmasked, flags_right, battery_level}
@@ -16,9 +16,9 @@ module _ (size : ℕ) (text : List ℕ) where
   unfolding read_frame_with_r opened_by
   place_small_with_r r number place e = go (read_frame size text) refl e
     where
-      opened : (p : Parts) (flags : Flags) → opened_by r size p flags ≡ refused number place → place ≤ 9 + size
-      opened p Flags.LeftOut q = let z : ◌≡◌ {A = ℕ} 0 1 = cc in absurd (omega arith)
-      opened p (Flags.Shown b) q = shown (flags_right p.protected (unmasked r b)) q
+      opened : (p : Parts) (flags : Option ℕ) → opened_by r size p flags ≡ refused number place → place ≤ 9 + size
+      opened p None q = let z : ◌≡◌ {A = ℕ} 0 1 = cc in absurd (omega arith)
+      opened p (Some b) q = shown (flags_right p.protected (unmasked r b)) q
         where
           shown : (s : Bool)
               → cond {A = Reading Opened} s (reads (record { parts = p; battery = battery_level (unmasked r b) })) (refused 8 (8 + size)) ≡ refused number place

@@ -1,9 +1,9 @@
 -- 2026-02, "A reader for our own frames": what a text whose identifier has `size` bytes says as a frame with r.
+use Rattle.std.specs.Prelude.{Option, None, Some}
 use Rattle.std.specs.Prelude.{ℕ, ◌/◌, ◌%◌, Bool, cond, not, ◌&&◌, List, eqb, length}
 use Rattle.std.specs.Int.Bits.{bit_xor}
 use Rattle.sizes.specs.Sizes.{frame_flags_at}
 use Rattle.frame.specs.Frame.{flags_mask}
-use Rattle.frame.specs.declared.Flags.{Flags}
 use Rattle.frame_reader.specs.Reader.{Parts, Reading, reads, refused, wrong_byte, read_frame}
 
 -- "refusal 1" for an r of a wrong size
@@ -34,9 +34,9 @@ unfoldable pub flags_right : Bool → ℕ → Bool
 flags_right on f =
     eqb (reserved_bits f) 0 && (eqb (protection_bit f) (cond on 1 0) && not (eqb (battery_level f) 0 && eqb (protection_bit f) 0))
 
-unfoldable pub opened_by : List ℕ → ℕ → Parts → Flags → Reading Opened
-opened_by r size p Flags.LeftOut = reads (record { parts = p; battery = 0 })
-opened_by r size p (Flags.Shown byte) =
+unfoldable pub opened_by : List ℕ → ℕ → Parts → Option ℕ → Reading Opened
+opened_by r size p None = reads (record { parts = p; battery = 0 })
+opened_by r size p (Some byte) =
     cond (flags_right p.protected (unmasked r byte))
     (reads (record { parts = p; battery = battery_level (unmasked r byte) }))
     (refused wrong_byte (frame_flags_at size))

@@ -1,13 +1,13 @@
 -- Laws of the frame that a text claims: how long it is, what stands in its head, and that behind the head it has the text's own bytes.
-use Prim.Native.Nat.{ℕ, zero, suc, ◌+◌, ◌-◌, ◌≤◌, ◌<◌}
-use mathlib.Core.Path.{◌≡◌, refl, sym, ap, ◌∙◌}
-use mathlib.Core.Bool.{Bool, true, false, cond, ◌&&◌}
+use Rattle.std.specs.Prelude.{Option, None, Some}
+use Prim.Native.Nat.{ℕ, ◌+◌, ◌≤◌, ◌<◌}
+use mathlib.Core.Path.{◌≡◌, sym, ◌∙◌}
+use mathlib.Core.Bool.{Bool, true, false, cond}
 use mathlib.Core.List.{List, [], ◌∷◌, ◌++◌}
 use native.Mathlib.Omega.{arith}
 use native.Mathlib.Decide.{dec_lt}
 use lib.ListN.{length, get_or, take, drop, replicate, length-append, length-drop, length-replicate, get_or-append}
 use lib.Seq.{length-take-le, get_or-take, get_or-drop, get_or_at}
-use Rattle.frame.specs.declared.Flags.{Flags}
 use Rattle.frame.specs.Frame.{rendered, flags_bytes}
 use Rattle.frame_reader.specs.Reader.{says_flags, claimed, claimed_frame, first_wrong}
 use Rattle.frame_reader.proofs.Common.{within_left}
@@ -24,16 +24,16 @@ filled_at : (size : ℕ) (d : List ℕ) (k : ℕ) → k < size → k < length d 
 filled_at size d k h l = get_or-take size (d ++ replicate size 0) k 0 h ∙ get_or-append d (replicate size 0) 0 k l
 
 -- what stands behind the head, with a flags byte or without
-abbrev behind : ℕ → List ℕ → Flags → List ℕ
+abbrev behind : ℕ → List ℕ → Option ℕ → List ℕ
 behind size d flags = filled size d ++ flags_bytes flags
 
 behind_at : (size : ℕ) (d : List ℕ) (s : Bool) (k : ℕ) → k < length d
-    → k < length (behind size d (cond s (Flags.Shown (get_or d size 0)) Flags.LeftOut))
-    → get_or d k 0 ≡ get_or (behind size d (cond s (Flags.Shown (get_or d size 0)) Flags.LeftOut)) k 0
+    → k < length (behind size d (cond s (Some (get_or d size 0)) None))
+    → get_or d k 0 ≡ get_or (behind size d (cond s (Some (get_or d size 0)) None)) k 0
 behind_at size d s k l h = go (dec_lt k size) s h
   where
-    go : Dec (k < size) → (s : Bool) → k < length (behind size d (cond s (Flags.Shown (get_or d size 0)) Flags.LeftOut))
-        → get_or d k 0 ≡ get_or (behind size d (cond s (Flags.Shown (get_or d size 0)) Flags.LeftOut)) k 0
+    go : Dec (k < size) → (s : Bool) → k < length (behind size d (cond s (Some (get_or d size 0)) None))
+        → get_or d k 0 ≡ get_or (behind size d (cond s (Some (get_or d size 0)) None)) k 0
     go (yes p) s h =
         sym (get_or-append (filled size d) _ 0 k (omega (arith, length_filled size d)) ∙ filled_at size d k p l)
     go (no q) true h =

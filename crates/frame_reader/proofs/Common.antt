@@ -1,6 +1,6 @@
 -- Laws of how many bytes two lists have in common from the first on: within both, the same up to there, and one more exactly where the next
 -- bytes are the same.
-use Prim.Native.Nat.{ℕ, zero, suc, ◌+◌, ◌≤◌, ◌<◌}
+use Prim.Native.Nat.{ℕ, zero, suc, ◌≤◌, ◌<◌}
 use mathlib.Core.Path.{◌≡◌, refl, sym, ap, ◌∙◌}
 use mathlib.Core.Logic.{◌⊎◌, inl, inr}
 use mathlib.Core.Bool.{Bool, true, false, cond}
@@ -9,10 +9,10 @@ use native.Mathlib.Omega.{arith}
 use lib.Dec.{eqb, ltb, leb-suc-suc}
 use lib.ListN.{length, get_or, take}
 use lib.Seq.{take_all, get_or-take}
-use borrow.Author.Tests.{eqb-true, eqb-false, eq-eqb, lt-ltb, le-ltb, ltb-true}
+use borrow.Author.Tests.{eqb-true, eq-eqb, lt-ltb}
 use Rattle.laws.specs.Bytes.{same_bytes}
 use Rattle.laws.proofs.Flags.{fails}
-use Rattle.laws.proofs.Same.{same_equal, equal_same, same_refl}
+use Rattle.laws.proofs.Same.{same_equal, equal_same}
 use Rattle.frame_reader.specs.Reader.{common}
 
 pub within_left : (a b : List ℕ) → common a b ≤ length a

@@ -1,20 +1,20 @@
 -- Laws of a frame's head: a byte is right, after bytes that are, exactly where it is the one of the frame that the text claims; and what that is
 -- at the two places where it varies.
+use Rattle.std.specs.Prelude.{None, Some}
 use Prim.Native.Nat.{ℕ, ◌+◌, ◌≤◌, ◌<◌}
-use mathlib.Core.Path.{◌≡◌, refl, sym, ap, ◌∙◌}
+use mathlib.Core.Path.{◌≡◌, refl, sym, ◌∙◌}
 use mathlib.Core.Bool.{Bool, true, false, cond, ◌&&◌, ◌||◌}
 use mathlib.Core.List.{List}
 use native.Mathlib.Omega.{arith}
 use lib.Dec.{eqb, ltb}
 use lib.ListN.{length, get_or}
 use Rattle.laws.proofs.Flags.{or_false, or_right}
-use Rattle.frame.specs.declared.Flags.{Flags}
 use Rattle.frame.specs.Frame.{rendered, length_byte}
 use Rattle.frame_reader.specs.Reader.{says_flags, claimed, claimed_frame, first_wrong}
 use Rattle.frame_reader.proofs.Common.{goes_on}
 
 length_byte_lem : (x size b : ℕ) (s : Bool) → s ≡ eqb x (size + 5)
-    → (eqb x (size + 4) || s) ≡ eqb x (length_byte size (cond s (Flags.Shown b) Flags.LeftOut))
+    → (eqb x (size + 4) || s) ≡ eqb x (length_byte size (cond s (Some b) None))
 length_byte_lem x size b true e = or_right (eqb x (size + 4)) refl ∙ e
 length_byte_lem x size b false e = or_false (eqb x (size + 4))
 

@@ -1,6 +1,7 @@
 -- What is read, by the first wrong byte and the text's length: a wrong head is refused at its place; behind a right head only the length counts.
+use Rattle.std.specs.Prelude.{None, Some}
 use Prim.Native.Nat.{ℕ, ◌+◌, ◌-◌, ◌≤◌, ◌<◌}
-use mathlib.Core.Path.{◌≡◌, refl, sym, ap, ◌∙◌}
+use mathlib.Core.Path.{◌≡◌, refl, ap, ◌∙◌}
 use mathlib.Core.Logic.{◌⊎◌, inl, inr}
 use mathlib.Core.Bool.{Bool, true, false, cond}
 use mathlib.Core.List.{List}
@@ -12,10 +13,9 @@ use lib.Seq.{take-append-le}
 use Rattle.laws.specs.Bytes.{same_bytes}
 use Rattle.laws.proofs.Flags.{true_or_false}
 use Rattle.laws.proofs.Same.{same_equal}
-use Rattle.frame.specs.declared.Flags.{Flags}
 use Rattle.frame.specs.Frame.{rendered}
 use Rattle.frame_reader.specs.Reader.{Parts, reads, refused, says_flags, claimed, claimed_frame, first_wrong, read_frame}
-use Rattle.frame_reader.proofs.Common.{within_left, within_right, same_at, reaches, all_common, not_all_common}
+use Rattle.frame_reader.proofs.Common.{within_right, same_at, reaches, all_common, not_all_common}
 use Rattle.frame_reader.proofs.Claims.{behind_head, wrong_within, length_flagged, length_bare}
 
 module _ (size : ℕ) (text : List ℕ) where
@@ -65,13 +65,13 @@ module _ (size : ℕ) (text : List ℕ) where
 
 -- what a text claims, by its length byte
 pub claims_bare : (size : ℕ) (text : List ℕ) → says_flags size text ≡ false
-    → claimed size text ≡ record { identifier = (claimed size text).identifier; protected = false; flags = Flags.LeftOut }
+    → claimed size text ≡ record { identifier = (claimed size text).identifier; protected = false; flags = None }
 unfolding claimed
 claims_bare size text e = rw e
 
 pub claims_flagged : (size : ℕ) (text : List ℕ) → says_flags size text ≡ true
     → claimed size text
-    ≡ record { identifier = (claimed size text).identifier; protected = eqb (get_or text 7 0) 0x41; flags = Flags.Shown (get_or text (8 + size) 0) }
+    ≡ record { identifier = (claimed size text).identifier; protected = eqb (get_or text 7 0) 0x41; flags = Some (get_or text (8 + size) 0) }
 unfolding claimed
 claims_flagged size text e = rw e
 

@@ -1,15 +1,15 @@
 -- 2026-02, "A reader for our own frames": what a text says as a frame whose identifier has `size` bytes, or where it is wrong.
+use Rattle.std.specs.Prelude.{Option, None, Some}
 use Rattle.std.specs.Prelude.{ℕ, suc, ◌+◌, Bool, cond, ◌&&◌, List, [], ◌∷◌, ◌++◌, eqb, get_or, take, drop, replicate}
 use Rattle.laws.specs.Bytes.{same_bytes}
 use Rattle.sizes.specs.Sizes.{frame_identifier_at, frame_flags_at}
 use Rattle.frame.specs.Frame.{rendered}
-use Rattle.frame.specs.declared.Flags.{Flags}
 
 -- "it gives identifier, protection bit and flags byte if present"
 pub record Parts : Type 0 where
   pub identifier : List ℕ
   pub protected : Bool
-  pub flags : Flags
+  pub flags : Option ℕ
 
 -- what the writer makes of them
 abbrev pub frame_of : ℕ → Parts → List ℕ
@@ -43,7 +43,7 @@ claimed size text =
     record {
       identifier = take size (drop frame_identifier_at text ++ replicate size 0);
       protected = says_flags size text && eqb (get_or text kind_at 0) 0x41;
-      flags = cond (says_flags size text) (Flags.Shown (get_or text (frame_flags_at size) 0)) Flags.LeftOut;
+      flags = cond (says_flags size text) (Some (get_or text (frame_flags_at size) 0)) None;
     }
 
 -- how many bytes two lists have in common, from the first on

@@ -1,12 +1,11 @@
 #![tactic(auto)]
 // The reader of the frames that `render` writes: what a text of any bytes says as a frame, or the place of its first wrong byte. Nothing
 // here knows a unit.
-ghost use Rattle.std.specs.Prelude.{◌≡◌, true, false, cond, ◌≤◌, ◌<◌, min, ltb, length};
+ghost use Rattle.std.specs.Prelude.{◌≡◌, true, false, ◌≤◌, ◌<◌, min, ltb, length};
 ghost use Rattle.sizes.specs.Sizes.{identifier_size, frame_identifier_at};
 ghost use Rattle.frame_reader.specs.Reader.{length_at, says_flags, claimed, first_wrong, read_frame};
-ghost use Rattle.frame_reader.specs.Scanned.{seen_as, Scans, longest_identifier, RightHead};
+ghost use Rattle.frame_reader.specs.Scanned.{form_as, reading_of, longest_identifier, RightHead};
 
-use frame::Flags;
 use sizes::{FRAME_FLAGS_AT, FRAME_IDENTIFIER_AT, IDENTIFIER_SIZE};
 
 // Where the length byte and the byte of the frame's kind stand in the head.
@@ -14,21 +13,28 @@ const LENGTH_AT: usize = 3;
 
 const KIND_AT: usize = 7;
 
-// The number of the refusal of a text that is no frame.
+// The number of the refusal of a text that is no frame. Kept: the C interface: it stands in the number that an exported call gives.
 pub const WRONG_BYTE: u64 = 8;
 
-// A text as a frame: its protection bit and its flags byte; or refusal 8, with the place of the first wrong byte.
+// What a frame says: its identifier, its protection bit, and its flags byte where there is one.
 #[derive(Clone, Copy)]
-pub enum Seen {
-    Frame { on: bool, flags: Flags },
-    WrongByte(usize),
+pub struct Frame {
+    pub id: [u8; IDENTIFIER_SIZE],
+    pub on: bool,
+    pub flags: Option<u8>,
 }
 
-// The same with the identifier, which is zero on a refusal.
+// What it says beside the identifier.
 #[derive(Clone, Copy)]
-pub struct Scanned {
-    pub seen: Seen,
-    pub id: [u8; IDENTIFIER_SIZE],
+struct Form {
+    on: bool,
+    flags: Option<u8>,
+}
+
+// Refusal 8, with the place of the first wrong byte.
+#[derive(Clone, Copy)]
+pub struct WrongByte {
+    pub at: usize,
 }
 
 // Whether the length byte says that there is a flags byte, behind an identifier of `size` bytes.
@@ -62,63 +68,61 @@ fn head_right(text: &[u8], size: usize) -> usize
     requires { size ≤ longest_identifier }
     ensures { result ≡ min frame_identifier_at (first_wrong size text.now) }
 {
-    let mut at = 0;
-    while at < FRAME_IDENTIFIER_AT {
+    for at in 0..FRAME_IDENTIFIER_AT {
         if text.len() <= at {
             return at;
         }
         if !right(text, at, size) {
             return at;
         }
-        at += 1;
     }
     FRAME_IDENTIFIER_AT
 }
 
 // A text with a right head that says no flags byte: any bytes may follow, as many as the identifier has.
-fn bare(text: &[u8], size: usize) -> Seen
+fn bare(text: &[u8], size: usize) -> Result<Form, WrongByte>
     requires { RightHead size text.now false }
-    ensures { seen_as (claimed size text.now).identifier result ≡ read_frame size text.now }
+    ensures { form_as (claimed size text.now).identifier result ≡ read_frame size text.now }
 {
     let whole = FRAME_IDENTIFIER_AT + size;
     if text.len() < whole {
-        return Seen::WrongByte(text.len());
+        return Err(WrongByte { at: text.len() });
     }
     if whole < text.len() {
-        return Seen::WrongByte(whole);
+        return Err(WrongByte { at: whole });
     }
-    Seen::Frame {
+    Ok(Form {
         on: false,
-        flags: Flags::LeftOut,
-    }
+        flags: None,
+    })
 }
 
 // One that says a flags byte: one more.
-fn flagged(text: &[u8], size: usize) -> Seen
+fn flagged(text: &[u8], size: usize) -> Result<Form, WrongByte>
     requires { RightHead size text.now true }
-    ensures { seen_as (claimed size text.now).identifier result ≡ read_frame size text.now }
+    ensures { form_as (claimed size text.now).identifier result ≡ read_frame size text.now }
 {
     let flags_at = FRAME_IDENTIFIER_AT + size;
     if text.len() <= flags_at {
-        return Seen::WrongByte(text.len());
+        return Err(WrongByte { at: text.len() });
     }
     if flags_at + 1 < text.len() {
-        return Seen::WrongByte(flags_at + 1);
+        return Err(WrongByte { at: flags_at + 1 });
     }
-    Seen::Frame {
+    Ok(Form {
         on: text[KIND_AT] == 0x41,
-        flags: Flags::Shown(text[flags_at]),
-    }
+        flags: Some(text[flags_at]),
+    })
 }
 
 // A text as a frame with an identifier of `size` bytes.
-fn judged(text: &[u8], size: usize) -> Seen
+fn judged(text: &[u8], size: usize) -> Result<Form, WrongByte>
     requires { size ≤ longest_identifier }
-    ensures { seen_as (claimed size text.now).identifier result ≡ read_frame size text.now }
+    ensures { form_as (claimed size text.now).identifier result ≡ read_frame size text.now }
 {
     let at = head_right(text, size);
     if at < FRAME_IDENTIFIER_AT {
-        return Seen::WrongByte(at);
+        return Err(WrongByte { at });
     }
     if says_flags(text, size) {
         return flagged(text, size);
@@ -127,25 +131,13 @@ fn judged(text: &[u8], size: usize) -> Seen
 }
 
 // Reads a frame. Refusal: 8.
-pub fn read(text: &[u8]) -> Scanned
-    ensures { Scans (read_frame identifier_size text.now) result }
+pub fn read(text: &[u8]) -> Result<Frame, WrongByte>
+    ensures { reading_of result ≡ read_frame identifier_size text.now }
 {
-    let seen = judged(text, IDENTIFIER_SIZE);
-    match seen {
-        Seen::WrongByte(_) => Scanned {
-            seen,
-            id: [0; IDENTIFIER_SIZE],
-        },
-        Seen::Frame { on: _, flags: _ } => {
-            let id = octets::twenty(&text[FRAME_IDENTIFIER_AT..FRAME_FLAGS_AT]);
-            Scanned { seen, id }
-        }
-    }
-}
-
-// A flag as a byte.
-pub fn bit(on: bool) -> u8
-    ensures { result ≡ cond on 1 0 }
-{
-    if on { 1 } else { 0 }
+    let form = judged(text, IDENTIFIER_SIZE)?;
+    Ok(Frame {
+        id: octets::array(&text[FRAME_IDENTIFIER_AT..FRAME_FLAGS_AT]),
+        on: form.on,
+        flags: form.flags,
+    })
 }

@@ -1,12 +1,12 @@
 -- Laws of a line so far: too long or not, one byte longer, closed at the end of the input; and of a whole line, by its bytes.
-use Prim.Native.Nat.{ℕ, suc, ◌+◌, ◌≤◌, ◌<◌}
+use Prim.Native.Nat.{ℕ, ◌+◌, ◌≤◌, ◌<◌}
 use mathlib.Core.Path.{◌≡◌, refl, sym, ap, ◌∙◌}
 use mathlib.Core.Bool.{Bool, true, false, cond}
-use mathlib.Core.List.{List, [], ◌∷◌, ◌++◌}
-use mathlib.Core.Option.{Option, none, some}
+use mathlib.Core.List.{List}
+use Rattle.std.specs.Prelude.{None, Some}
 use native.Mathlib.Omega.{arith}
 use native.Mathlib.Numerals.{add-one}
-use lib.Dec.{leb, ltb, eqb}
+use lib.Dec.{leb}
 use lib.ListN.{length, take, set}
 use lib.Seq.{length-take-le, take-suc-set}
 use borrow.Author.Tests.{le-leb, lt-leb, lt-ltb, le-ltb, ne_eqb, leb-true}
@@ -18,19 +18,19 @@ use Rattle.frame_text.specs.declared.Line.{Line}
 
 -- a line by its bytes
 module _ (line : List ℕ) (fits : length line ≤ 256) where
-  pub answered : (frame : List ℕ) → some frame ≡ bytes line → line_text line ≡ reading_text (read_frame 20 frame)
+  pub answered : (frame : List ℕ) → Some frame ≡ bytes line → line_text line ≡ reading_text (read_frame 20 frame)
   unfolding line_text
   answered frame e = rw (le-leb (length line) 256 fits, ← e)
 
-  pub not_answered : none ≡ bytes line → line_text line ≡ malformed_text
+  pub not_answered : None ≡ bytes line → line_text line ≡ malformed_text
   unfolding line_text
   not_answered e = rw (le-leb (length line) 256 fits, ← e)
 
 module _ (l : Line) where
-  pub short : l.count ≤ 256 → so_far l ≡ some (take l.count l.bytes)
+  pub short : l.count ≤ 256 → so_far l ≡ Some (take l.count l.bytes)
   short h = rw (le-leb l.count 256 h)
 
-  pub long : 256 < l.count → so_far l ≡ none
+  pub long : 256 < l.count → so_far l ≡ None
   long h = rw (lt-leb l.count 256 h)
 
   module _ (room : length l.bytes ≡ 256) where
@@ -39,12 +39,12 @@ module _ (l : Line) where
     longer_by b h =
         let size : length (take l.count l.bytes) ≡ l.count = length-take-le l.count l.bytes (omega arith) in
         rw (le-leb l.count 256 (omega arith), le-leb (l.count + 1) 256 (omega arith), size, lt-ltb l.count 256 h, add-one l.count)
-        (ap some (take-suc-set l.bytes l.count b (omega arith)))
+        (ap Some (take-suc-set l.bytes l.count b (omega arith)))
 
-    pub too_long : (b : ℕ) → 256 ≤ l.count → none ≡ longer (so_far l) b
+    pub too_long : (b : ℕ) → 256 ≤ l.count → None ≡ longer (so_far l) b
     too_long b h = go (leb l.count 256) refl
       where
-        go : (s : Bool) → leb l.count 256 ≡ s → none ≡ longer (cond s (some (take l.count l.bytes)) none) b
+        go : (s : Bool) → leb l.count 256 ≡ s → None ≡ longer (cond s (Some (take l.count l.bytes)) None) b
         go true e =
             let size : length (take l.count l.bytes) ≡ l.count = length-take-le l.count l.bytes (omega (arith, leb-true l.count 256 e)) in
             rw (size, le-ltb l.count 256 h)
@@ -55,7 +55,7 @@ module _ (l : Line) where
     ends_closed h = go (leb l.count 256) refl
       where
         go : (s : Bool) → leb l.count 256 ≡ s
-            → ends (cond s (some (take l.count l.bytes)) none) ≡ closed (cond s (some (take l.count l.bytes)) none)
+            → ends (cond s (Some (take l.count l.bytes)) None) ≡ closed (cond s (Some (take l.count l.bytes)) None)
         go true e =
             let size : length (take l.count l.bytes) ≡ l.count = length-take-le l.count l.bytes (omega (arith, leb-true l.count 256 e)) in
             rw (ne_eqb (length (take l.count l.bytes)) 0 (λ z. h (sym size ∙ z)))

@@ -1,11 +1,10 @@
 -- What a returns desk reads of scanned frames: for each line of its input one line, with the parts of the frame or the refusal in words. A frame
 -- stands on its line as bytes in lower-case hexadecimal, as in a session file; a line has at most 256 bytes.
 use Rattle.std.specs.Prelude.{ℕ, Bool, cond, List, [], ◌∷◌, ◌++◌, leb, eqb, length}
-use Rattle.std.proofs.Math.Option.{Option, none, some}
+use Rattle.std.specs.Prelude.{Option, None, Some}
 use Rattle.sizes.specs.Sizes.{identifier_size}
 use Rattle.notation.specs.Text.{ascii, newline, hex, decimal}
 use Rattle.hex_reading.specs.Hex.{bytes}
-use Rattle.frame.specs.declared.Flags.{Flags}
 use Rattle.frame_reader.specs.Reader.{Parts, Reading, reads, refused, read_frame}
 
 abbrev pub longest_line : ℕ
@@ -15,9 +14,9 @@ longest_line = 256
 abbrev pub protection_text : Bool → List ℕ
 protection_text on = cond on (ascii " protection=1") (ascii " protection=0")
 
-abbrev pub flags_text : Flags → List ℕ
-flags_text Flags.LeftOut = newline ∷ []
-flags_text (Flags.Shown byte) = ascii " flags=" ++ (hex (byte ∷ []) ++ (newline ∷ []))
+abbrev pub flags_text : Option ℕ → List ℕ
+flags_text None = newline ∷ []
+flags_text (Some byte) = ascii " flags=" ++ (hex (byte ∷ []) ++ (newline ∷ []))
 
 unfoldable pub parts_text : Parts → List ℕ
 parts_text p = ascii "identifier=" ++ (hex p.identifier ++ (protection_text p.protected ++ flags_text p.flags))
@@ -36,8 +35,8 @@ reading_text (refused number place) = refusal_text number place
 
 -- a line without its newline; one that is too long, or no bytes in hexadecimal, is malformed
 abbrev pub bytes_text : Option (List ℕ) → List ℕ
-bytes_text none = malformed_text
-bytes_text (some frame) = reading_text (read_frame identifier_size frame)
+bytes_text None = malformed_text
+bytes_text (Some frame) = reading_text (read_frame identifier_size frame)
 
 unfoldable pub line_text : List ℕ → List ℕ
 line_text line = cond (leb (length line) longest_line) (bytes_text (bytes line)) malformed_text

@@ -1,6 +1,6 @@
 -- The same byte by byte, as the calls take it: what is known of the line so far, and what each byte prints. `AllPrinted` joins the two (proofs/Taking).
 use Rattle.std.specs.Prelude.{ℕ, ◌≡◌, cond, List, [], ◌∷◌, ◌++◌, leb, ltb, eqb, length, take, replicate}
-use Rattle.std.proofs.Math.Option.{Option, none, some}
+use Rattle.std.specs.Prelude.{Option, None, Some}
 use Rattle.laws.specs.Answer.{Wrote}
 use Rattle.notation.specs.Text.{newline}
 use Rattle.frame_text.specs.Answers.{longest_line, malformed_text, line_text, printed}
@@ -10,26 +10,26 @@ use Rattle.frame_text.specs.declared.Taken.{Taken}
 
 -- the line so far, or that it is too long already
 abbrev pub so_far : Line → Option (List ℕ)
-so_far l = cond (leb l.count longest_line) (some (take l.count l.bytes)) none
+so_far l = cond (leb l.count longest_line) (Some (take l.count l.bytes)) None
 
 abbrev pub longer : Option (List ℕ) → ℕ → Option (List ℕ)
-longer none b = none
-longer (some line) b = cond (ltb (length line) longest_line) (some (line ++ (b ∷ []))) none
+longer None b = None
+longer (Some line) b = cond (ltb (length line) longest_line) (Some (line ++ (b ∷ []))) None
 
 abbrev pub closed : Option (List ℕ) → List ℕ
-closed none = malformed_text
-closed (some line) = line_text line
+closed None = malformed_text
+closed (Some line) = line_text line
 
 -- a byte: the line after it, and what it prints; and what the end of the input prints
 unfoldable pub after : Option (List ℕ) → ℕ → Option (List ℕ)
-after line b = cond (eqb b newline) (some []) (longer line b)
+after line b = cond (eqb b newline) (Some []) (longer line b)
 
 unfoldable pub says : Option (List ℕ) → ℕ → List ℕ
 says line b = cond (eqb b newline) (closed line) []
 
 unfoldable pub ends : Option (List ℕ) → List ℕ
-ends none = malformed_text
-ends (some line) = cond (eqb (length line) 0) [] (line_text line)
+ends None = malformed_text
+ends (Some line) = cond (eqb (length line) 0) [] (line_text line)
 
 -- what taking all bytes of an input prints in total
 unfoldable pub taken : Option (List ℕ) → List ℕ → List ℕ
@@ -37,7 +37,7 @@ taken line [] = ends line
 taken line (b ∷ bs) = says line b ++ taken (after line b) bs
 
 abbrev pub AllPrinted : Type 0
-AllPrinted = (input : List ℕ) → taken (some []) input ≡ printed input
+AllPrinted = (input : List ℕ) → taken (Some []) input ≡ printed input
 
 -- a text stands first in a room of zeros
 abbrev pub text_room : ℕ

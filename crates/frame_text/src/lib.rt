@@ -1,20 +1,17 @@
 #![tactic(auto)]
 // Scanned frames as text: takes an input byte by byte, and for each line gives the parts of its frame or the refusal in words.
-ghost use Rattle.std.specs.Prelude.{◌≡◌, [], ◌+◌, ◌≤◌, length};
-ghost use Rattle.std.proofs.Math.Option.{some};
+ghost use Rattle.std.specs.Prelude.{◌≡◌, [], ◌+◌, ◌≤◌, length, Some};
 ghost use Rattle.sizes.specs.Sizes.{identifier_size, longest_frame};
 ghost use Rattle.notation.specs.Written.{PutsText};
 ghost use Rattle.frame_reader.specs.Reader.{wrong_byte, read_frame};
+ghost use Rattle.frame_reader.specs.Scanned.{parts_of};
 ghost use Rattle.frame_text.specs.Answers.{longest_line, malformed_text, protection_text, flags_text, parts_text, refusal_text, reading_text, line_text};
 ghost use Rattle.frame_text.specs.Taking.{so_far, longer as longer_by, closed as closed_as, ends, Says, Takes};
 
-use frame::Flags;
-use frame_reader::Seen;
-use hex_reading::Octets;
+use frame_reader::{Frame, WrongByte};
 use notation::text;
-use sizes::IDENTIFIER_SIZE;
 
-const NEWLINE: u8 = 10;
+const NEWLINE: u8 = b'\n';
 
 const LONGEST_LINE: usize = 256;
 
@@ -23,14 +20,14 @@ const MOST_BYTES: usize = LONGEST_LINE / 2;
 
 const TEXT_ROOM: usize = 96;
 
-// A line so far: its first `count` bytes. One that is too long already has a count above that.
+// A line so far: its first `count` bytes. Kept: a Vec could run out of memory, and taking a byte cannot fail. One that is too long already has a count above that.
 #[derive(Clone, Copy)]
 pub struct Line {
     pub bytes: [u8; LONGEST_LINE],
     pub count: usize,
 }
 
-// A text: the first `count` bytes; the others are zero.
+// A text: the first `count` bytes; the others are zero. Kept as the line is.
 #[derive(Clone, Copy)]
 pub struct Text {
     pub bytes: [u8; TEXT_ROOM],
@@ -46,7 +43,7 @@ pub struct Taken {
 
 // No line yet.
 pub fn begin() -> Line
-    ensures { so_far result ≡ some [] }
+    ensures { so_far result ≡ Some [] }
 {
     Line {
         bytes: [0; LONGEST_LINE],
@@ -59,13 +56,15 @@ pub fn take(line: Line, byte: u8) -> Taken
     ensures { Takes line byte result }
 {
     if byte == NEWLINE {
-        let text = closed(line);
-        let next = begin();
-        return Taken { line: next, text };
+        return Taken {
+            line: begin(),
+            text: closed(line),
+        };
     }
-    let next = longer(line, byte);
-    let text = nothing();
-    Taken { line: next, text }
+    Taken {
+        line: longer(line, byte),
+        text: nothing(),
+    }
 }
 
 // The end of the input: a last line without its newline counts too.
@@ -82,13 +81,12 @@ fn longer(line: Line, byte: u8) -> Line
     ensures { so_far result ≡ longer_by (so_far line) byte }
 {
     let mut next = line;
-    let count = line.count;
-    if count < LONGEST_LINE {
-        next.bytes[count] = byte;
-        next.count = count + 1;
-        return next;
+    if line.count < LONGEST_LINE {
+        next.bytes[line.count] = byte;
+        next.count += 1;
+    } else {
+        next.count = LONGEST_LINE + 1;
     }
-    next.count = LONGEST_LINE + 1;
     next
 }
 
@@ -127,8 +125,8 @@ fn answer(line: &[u8]) -> Text
 {
     let mut frame = [0u8; MOST_BYTES];
     match hex_reading::unhex(line, &mut frame) {
-        Octets::Count(n) => told(&frame[..n]),
-        Octets::Wrong => malformed(),
+        Some(n) => told(&frame[..n]),
+        None => malformed(),
     }
 }
 
@@ -136,12 +134,9 @@ fn answer(line: &[u8]) -> Text
 fn told(frame: &[u8]) -> Text
     ensures { Says (reading_text (read_frame identifier_size frame.now)) result }
 {
-    let scanned = frame_reader::read(frame);
-    let id = scanned.id;
-    let seen = scanned.seen;
-    match seen {
-        Seen::WrongByte(at) => refused(at),
-        Seen::Frame { on, flags } => parts(id, on, flags),
+    match frame_reader::read(frame) {
+        Err(WrongByte { at }) => refused(at),
+        Ok(frame) => parts(frame),
     }
 }
 
@@ -159,14 +154,14 @@ fn refused(at: usize) -> Text
     Text { bytes, count }
 }
 
-fn parts(id: [u8; IDENTIFIER_SIZE], on: bool, flags: Flags) -> Text
-    ensures { Says (parts_text (record { identifier = id; protected = on; flags = flags })) result }
+fn parts(frame: Frame) -> Text
+    ensures { Says (parts_text (parts_of frame)) result }
 {
     let mut bytes = [0u8; TEXT_ROOM];
     let named = text::put(&mut bytes, 0, b"identifier=");
-    let shown = text::hex(&mut bytes, named, &id);
-    let protected = protection(&mut bytes, shown, on);
-    let count = flags_line(&mut bytes, protected, flags);
+    let shown = text::hex(&mut bytes, named, &frame.id);
+    let protected = protection(&mut bytes, shown, frame.on);
+    let count = flags_line(&mut bytes, protected, frame.flags);
     Text { bytes, count }
 }
 
@@ -180,15 +175,12 @@ fn protection(out: &mut [u8], at: usize, on: bool) -> usize
     text::put(out, at, b" protection=0")
 }
 
-fn flags_line(out: &mut [u8], at: usize, flags: Flags) -> usize
+fn flags_line(out: &mut [u8], at: usize, flags: Option<u8>) -> usize
     requires { at + 10 ≤ length out.old }
     ensures { PutsText (flags_text flags) at out.old result out.new }
 {
     match flags {
-        Flags::LeftOut => text::put(out, at, b"\n"),
-        Flags::Shown(byte) => {
-            let one = [byte];
-            text::hex_line(out, at, b" flags=", &one)
-        }
+        None => text::put(out, at, b"\n"),
+        Some(byte) => text::hex_line(out, at, b" flags=", &[byte]),
     }
 }

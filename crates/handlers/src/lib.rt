@@ -10,12 +10,12 @@ use unit::{Refusal, TagUnit};
 use wire::Head;
 
 // Hands the request, with the write's tail as its additional data, to the handler of its ID. A ring is also handed the reachable parts.
-pub fn by_id(u: TagUnit, h: Head, additional: &[u8], reach: u8) -> Verdict
+pub fn by_id(u: TagUnit, h: Head, additional: &[u8], reach: u8) -> Result<Verdict, Refusal>
     requires { Ready u h.size additional.now × (size_legal h.id h.size ≡ true) }
     ensures { Judges u h.id (by_id u (request h additional.now) reach) result }
 {
-    let id = h.id;
-    match id {
+    // Kept: the paper's form, a match on the ID's byte.
+    match h.id {
         0x00 => parameter_read::read_parameters(u, h, additional),
         0x01 => state_read::read_state(u, h, additional),
         0x02 => provisioning::set_key(u, h, additional),
@@ -25,6 +25,6 @@ pub fn by_id(u: TagUnit, h: Head, additional: &[u8], reach: u8) -> Verdict
         0x06 => ringing::read_sound(u, h, additional),
         0x07 => protecting::protect(u, h, additional),
         0x08 => protecting::unprotect(u, h, additional),
-        _ => answering::denied(u, Refusal::InvalidValue),
+        _ => Err(Refusal::InvalidValue),
     }
 }

@@ -1,6 +1,6 @@
 -- The block that ends a message of one block and a hash value's bytes: its words are the hash value's own, the mark, zeros and the length.
 -- Then the SHA-256 of such a message.
-use mathlib.Core.Path.{◌≡◌, refl, sym, ◌∙◌}
+use mathlib.Core.Path.{◌≡◌, refl, sym}
 use mathlib.Core.List.{List, [], ◌∷◌, ◌++◌}
 use Prim.Native.Nat.{ℕ, ◌^◌, ◌<◌}
 use native.Mathlib.Omega.{arith}

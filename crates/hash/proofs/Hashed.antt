@@ -1,19 +1,25 @@
--- The bytes of a hash value one by one, and the number of blocks of a padded message.
+-- The bytes of a hash value word by word and one by one, and the number of blocks of a padded message.
 use mathlib.Core.Path.{◌≡◌, refl, sym, ap, ◌∙◌}
-use mathlib.Core.List.{List, [], ◌∷◌, ◌++◌, append_assoc}
+use mathlib.Core.List.{List, [], ◌∷◌, ◌++◌, append_assoc, append-nil}
 use Prim.Native.Nat.{ℕ, zero, suc, ◌+◌, ◌-◌, ◌*◌, ◌/◌, ◌%◌, ◌^◌, ◌≤◌, ◌<◌}
 use native.Mathlib.Nat.{add-zero, div-one, div-div-eq-div-mul}
 use native.Mathlib.Omega.{arith}
 use native.Mathlib.Decide.{dec_lt}
-use lib.ListN.{length, get_or, replicate, length-append}
+use native.Mathlib.Numerals.{add-one}
+use lib.ListN.{length, get_or, take, replicate, length-append}
+use lib.Seq.{take-suc, length-take-le}
 use Rattle.laws.specs.Bytes.{tabulate, big_endian}
+use Rattle.laws.proofs.BigEndian.{length_big_endian}
+use Rattle.words.specs.Words.{bytes_of}
+use Rattle.words.proofs.Words.{length_bytes_of, bytes_of_append}
 use Rattle.octets.specs.Put.{pasted}
+use Rattle.octets.proofs.Pasting.{pasted_next}
 use Rattle.padding.specs.Padding.{zeros, padding, pad, words_at, block}
 use Rattle.hash.specs.Sha256.{H⁰, hash_value, value_after, digest, SHA256}
 use Rattle.compression.specs.Compression.{compress}
 use Rattle.compression.specs.declared.Working.{Working}
 use Rattle.padding.specs.Blocks.{followed}
-use Rattle.padding.proofs.Padded.{length_pad, length_parts, length_followed, block_words, words_before, words_after}
+use Rattle.padding.proofs.Padded.{length_pad, length_followed, block_words, words_before, words_after}
 
 -- byte i of words of 32 bits
 unfoldable pub byte_of : List ℕ → ℕ → ℕ
@@ -23,20 +29,27 @@ pub digest_bytes : (v : Working) → tabulate 32 (byte_of (v.a ∷ v.b ∷ v.c �
 unfolding byte_of tabulate digest big_endian
 digest_bytes v = simp (div-div-eq-div-mul, div-one)
 
--- the bytes of a hash value, put word by word
-pub eight_put : (v : Working) (f₁ f₂ f₃ f₄ f₅ f₆ f₇ f₈ b₁ b₂ b₃ b₄ b₅ b₆ b₇ b₈ : List ℕ)
-    → f₁ ≡ big_endian 4 v.a → b₁ ≡ pasted (replicate 32 0) 0 f₁
-    → f₂ ≡ big_endian 4 v.b → b₂ ≡ pasted b₁ 4 f₂
-    → f₃ ≡ big_endian 4 v.c → b₃ ≡ pasted b₂ 8 f₃
-    → f₄ ≡ big_endian 4 v.d → b₄ ≡ pasted b₃ 12 f₄
-    → f₅ ≡ big_endian 4 v.e → b₅ ≡ pasted b₄ 16 f₅
-    → f₆ ≡ big_endian 4 v.f → b₆ ≡ pasted b₅ 20 f₆
-    → f₇ ≡ big_endian 4 v.g → b₇ ≡ pasted b₆ 24 f₇
-    → f₈ ≡ big_endian 4 v.h → b₈ ≡ pasted b₇ 28 f₈
-    → b₈ ≡ digest v
-unfolding digest big_endian
-eight_put v f₁ f₂ f₃ f₄ f₅ f₆ f₇ f₈ b₁ b₂ b₃ b₄ b₅ b₆ b₇ b₈ w₁ p₁ w₂ p₂ w₃ p₃ w₄ p₄ w₅ p₅ w₆ p₆ w₇ p₇ w₈ p₈ =
-    rw (p₈, w₈, p₇, w₇, p₆, w₆, p₅, w₅, p₄, w₄, p₃, w₃, p₂, w₂, p₁, w₁) refl
+-- the bytes of a hash value are those of its words
+abbrev pub words_of : Working → List ℕ
+words_of v = v.a ∷ v.b ∷ v.c ∷ v.d ∷ v.e ∷ v.f ∷ v.g ∷ v.h ∷ []
+
+pub all_put : (v : Working) → pasted (replicate 32 0) 0 (bytes_of (take 8 (words_of v))) ≡ digest v
+unfolding digest bytes_of big_endian
+all_put v = refl
+
+-- one word's bytes more, put behind those of the words before it
+pub word_put : (z ws out : List ℕ) (i : ℕ) → i < length ws → 4 * length ws ≤ length z → out ≡ pasted z 0 (bytes_of (take i ws))
+    → pasted out (4 * i) (big_endian 4 (get_or ws i 0)) ≡ pasted z 0 (bytes_of (take (i + 1) ws))
+unfolding bytes_of
+word_put z ws out i h room e =
+    let size : length (bytes_of (take i ws)) ≡ 4 * i = length_bytes_of (take i ws) ∙ ap (λ (n : ℕ). 4 * n) (length-take-le i ws (omega arith)) in
+    let long : length (big_endian 4 (get_or ws i 0)) ≡ 4 = length_big_endian 4 (get_or ws i 0) in
+    let last : bytes_of (take i ws) ++ bytes_of (get_or ws i 0 ∷ []) ≡ bytes_of (take i ws) ++ big_endian 4 (get_or ws i 0)
+    = ap (λ (l : List ℕ). bytes_of (take i ws) ++ l) (append-nil (big_endian 4 (get_or ws i 0))) in
+    let next : bytes_of (take i ws ++ (get_or ws i 0 ∷ [])) ≡ bytes_of (take (i + 1) ws)
+    = ap bytes_of (rw (add-one, take-suc ws i 0 h)) in
+    rw e (pasted_next z 0 (bytes_of (take i ws)) (big_endian 4 (get_or ws i 0)) (4 * i) (omega arith) (omega arith))
+    ∙ ap (pasted z 0) (sym last ∙ sym (bytes_of_append (take i ws) (get_or ws i 0 ∷ [])) ∙ next)
 
 pub zeros_low : (n : ℕ) → n % 64 < 56 → zeros n ≡ 55 - n % 64
 unfolding zeros
@@ -118,15 +131,6 @@ pub digest_value : (m : List ℕ) → digest (value_after (pad m)) ≡ SHA256 m
 unfolding SHA256 value_after
 digest_value m = refl
 
--- the parts' own sizes, as the code adds them up, after p
-module _ (before : ℕ) (whole : before % 64 ≡ 0) (f h t l : List ℕ) where
-  pub block_within : (i : ℕ) → i < (length f + length h + length t + length l + 8) / 64 + 1
-      → 64 * i + 64 ≤ length (followed before (f ++ (h ++ (t ++ l))))
-  block_within i b =
-      omega (arith, length_blocks (f ++ (h ++ (t ++ l))), length_parts f h t l, length_pad (f ++ (h ++ (t ++ l))), length_followed before whole (f ++ (h ++ (t ++ l))))
-
-  pub hashed : (p : List ℕ) (i : ℕ) (s : Working) → length p ≡ before
-      → i ≡ (length f + length h + length t + length l + 8) / 64 + 1
-      → s ≡ hash_value (p ++ followed before (f ++ (h ++ (t ++ l)))) (length p / 64 + i)
-      → s ≡ value_after (pad (p ++ (f ++ (h ++ (t ++ l)))))
-  hashed p i s n b e = value_ends before whole (f ++ (h ++ (t ++ l))) p i s n (rw length_parts b) e
+-- the blocks that the code counts
+pub block_within : (before : ℕ) → before % 64 ≡ 0 → (m : List ℕ) (i : ℕ) → i < (length m + 8) / 64 + 1 → 64 * i + 64 ≤ length (followed before m)
+block_within before whole m i b = omega (arith, length_blocks m, length_pad m, length_followed before whole m)

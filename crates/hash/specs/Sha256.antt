@@ -1,6 +1,6 @@
 -- SHA-256 as FIPS 180-4 defines it, over messages of whole bytes. Clause numbers are the standard's, and names where it has them.
-use Rattle.std.specs.Prelude.{ℕ, zero, suc, ◌+◌, ◌-◌, ◌*◌, ◌/◌, ◌%◌, ◌^◌, List, [], ◌∷◌, ◌++◌, length, get_or, take, drop, replicate}
-use Rattle.laws.specs.Bytes.{tabulate, big_endian, number}
+use Rattle.std.specs.Prelude.{ℕ, zero, suc, ◌/◌, List, ◌++◌, length}
+use Rattle.laws.specs.Bytes.{big_endian}
 use Rattle.padding.specs.Padding.{pad, block}
 use Rattle.compression.specs.Compression.{compress}
 use Rattle.compression.specs.declared.Working.{Working}

@@ -5,7 +5,7 @@ ghost use Rattle.padding.specs.Blocks.{followed};
 ghost use Rattle.hash.specs.Sha256.{H⁰, digest};
 
 use compression::Working;
-use octets::{four, put};
+use octets::put;
 
 pub fn initial() -> Working
     ensures { result ≡ H⁰ }
@@ -26,15 +26,11 @@ pub fn initial() -> Working
 pub fn bytes(v: Working) -> [u8; 32]
     ensures { result ≡ digest v }
 {
+    let words = [v.a, v.b, v.c, v.d, v.e, v.f, v.g, v.h];
     let mut out = [0u8; 32];
-    put(&mut out, 0, &four(v.a));
-    put(&mut out, 4, &four(v.b));
-    put(&mut out, 8, &four(v.c));
-    put(&mut out, 12, &four(v.d));
-    put(&mut out, 16, &four(v.e));
-    put(&mut out, 20, &four(v.f));
-    put(&mut out, 24, &four(v.g));
-    put(&mut out, 28, &four(v.h));
+    for (i, word) in words.iter().enumerate() {
+        put(&mut out, 4 * i, &word.to_be_bytes());
+    }
     out
 }
 

@@ -7,17 +7,18 @@ use borrow.Author.Tests.{le-leb}
 use lib.Dec.{leb, eqb, leb→le}
 use lib.ListN.{length, length-append}
 use Rattle.primitives.specs.Standards.{SHA256, HMAC}
-use Rattle.lent_answer.specs.Ends.{Ends}
-use Rattle.lent_answer.specs.declared.Ending.{Ending}
+use Rattle.std.specs.Prelude.{Err}
+use Rattle.lent_answer.specs.Ends.{Ending, Ends}
+use Rattle.lent_answer.specs.declared.WrongSize.{WrongSize}
 use Rattle.lent_answer.proofs.Answered.{both, three, refused, exactly, given}
 use Rattle.hash_calls.specs.Calls.{hashed, authenticated}
 use Rattle.sizes.specs.Sizes.{longest_message}
 
 module _ (message before : List ℕ) where
-  pub hashed_refused : (length message ≤ longest_message → ⊥) → Ends (hashed message (length before)) Ending.WrongSize before before
+  pub hashed_refused : (wrong : WrongSize) → (length message ≤ longest_message → ⊥) → Ends (hashed message (length before)) (Err wrong) before before
   unfolding hashed
-  hashed_refused fails =
-      refused (SHA256 message) before (leb (length message) longest_message && eqb (length before) 32)
+  hashed_refused wrong fails =
+      refused (SHA256 message) before wrong (leb (length message) longest_message && eqb (length before) 32)
       (λ t. fails (leb→le _ _ (both (leb (length message) longest_message) (eqb (length before) 32) t).0))
 
   pub hashed_given : (bytes after : List ℕ) (end : Ending) → length message ≤ longest_message → length bytes ≡ 32 → bytes ≡ SHA256 message
@@ -30,11 +31,11 @@ pub length_three : (xs ys zs : List ℕ) → length (xs ++ (ys ++ zs)) ≡ lengt
 length_three xs ys zs = simp length-append
 
 module _ (key message before : List ℕ) where
-  pub authenticated_refused : (length key ≤ longest_message → length message ≤ longest_message → ⊥)
-      → Ends (authenticated key message (length before)) Ending.WrongSize before before
+  pub authenticated_refused : (wrong : WrongSize) → (length key ≤ longest_message → length message ≤ longest_message → ⊥)
+      → Ends (authenticated key message (length before)) (Err wrong) before before
   unfolding authenticated
-  authenticated_refused fails =
-      refused (HMAC key message) before _
+  authenticated_refused wrong fails =
+      refused (HMAC key message) before wrong _
       (λ t.
       let p = three (leb (length key) longest_message) (leb (length message) longest_message) (eqb (length before) 32) t in
       fails (leb→le _ _ p.0) (leb→le _ _ p.1.0))

@@ -1,2 +1,1 @@
 pub mod Unhexed
-pub mod OneByte

@@ -1,81 +1,52 @@
 #![tactic(auto)]
-// What a value in hexadecimal on a line means: bytes, or one byte; or that it is wrong.
-ghost use Rattle.std.specs.Prelude.{◌≡◌, ◌*◌, ◌≤◌, length};
-ghost use Rattle.reading.specs.Values.{numeral_of};
+// What a value in hexadecimal on a line means: bytes, or one byte; or none, where it is wrong.
+ghost use Rattle.std.specs.Prelude.{◌≡◌, ◌*◌, ◌≤◌, ◌<◌, length, IfSome};
 ghost use Rattle.hex_reading.specs.Hex.{hex_value, one_byte};
-ghost use Rattle.hex_reading.specs.HexValues.{nibble_of, Unhexes};
+ghost use Rattle.hex_reading.specs.HexValues.{pair_of, Unhexes};
 
-use reading::{NINE, Numeral, ZERO};
-
-// How many bytes were read, or that the text is wrong.
-#[derive(Clone, Copy)]
-pub enum Octets {
-    Count(usize),
-    Wrong,
+// The value of a hexadecimal digit in lower case.
+#[tactic(auto, unfolding(crate::specs::Hex::hex_value))]
+fn nibble(c: u8) -> Option<u8>
+    ensures value { result ≡ hex_value c }
+    ensures small { IfSome result (λ n. n < 16) }
+{
+    match c {
+        b'0'..=b'9' => Some(c - b'0'),
+        b'a'..=b'f' => Some(c - b'a' + 10),
+        _ => None,
+    }
 }
 
-// No nibble.
-const WRONG: u8 = 16;
-
-// The value of a hexadecimal digit in lower case, or 16.
-fn nibble(c: u8) -> u8
-    ensures { nibble_of result ≡ hex_value c }
+// The byte of two digits.
+fn pair(high: u8, low: u8) -> Option<u8>
+    ensures { result ≡ pair_of (hex_value high) (hex_value low) }
 {
-    if c < ZERO {
-        return WRONG;
-    }
-    if c <= NINE {
-        return c - ZERO;
-    }
-    if c < 97 {
-        return WRONG;
-    }
-    if 102 < c {
-        return WRONG;
-    }
-    c - 87
+    Some(nibble(high)? * 16 + nibble(low)?)
 }
 
 // One byte in hexadecimal, two digits.
-pub fn one_byte(text: &[u8]) -> Numeral
-    ensures { numeral_of result ≡ one_byte text.now }
+#[tactic(auto, using(crate::proofs::Unhexed::not_two, crate::proofs::Unhexed::two_digits))]
+pub fn one_byte(text: &[u8]) -> Option<u8>
+    ensures { result ≡ one_byte text.now }
 {
     if text.len() != 2 {
-        return Numeral::Wrong;
+        return None;
     }
-    let high = nibble(text[0]);
-    let low = nibble(text[1]);
-    if WRONG <= high {
-        return Numeral::Wrong;
-    }
-    if WRONG <= low {
-        return Numeral::Wrong;
-    }
-    Numeral::Value((high * 16 + low) as u32)
+    pair(text[0], text[1])
 }
 
-// Bytes in hexadecimal, two digits each, into lent bytes.
-pub fn unhex(text: &[u8], into: &mut [u8]) -> Octets
+// Bytes in hexadecimal, two digits each, into lent bytes: how many there are.
+#[tactic(auto, using(crate::proofs::Unhexed::bytes_odd, crate::proofs::Unhexed::joined_none, crate::proofs::Unhexed::joined_wrong, crate::proofs::Unhexed::joined_more, crate::proofs::Unhexed::joined_all))]
+pub fn unhex(text: &[u8], into: &mut [u8]) -> Option<usize>
     requires { length text.now ≤ 2 * length into.old }
     ensures { Unhexes text.now result into.new }
 {
-    let mut count = 0;
-    let mut at = 0;
-    while at < text.len() {
-        if text.len() - at < 2 {
-            return Octets::Wrong;
-        }
-        let high = nibble(text[at]);
-        let low = nibble(text[at + 1]);
-        if WRONG <= high {
-            return Octets::Wrong;
-        }
-        if WRONG <= low {
-            return Octets::Wrong;
-        }
-        into[count] = high * 16 + low;
-        at += 2;
-        count += 1;
+    if text.len() % 2 != 0 {
+        return None;
     }
-    Octets::Count(count)
+    let count = text.len() / 2;
+    for i in 0..count {
+        into[i] = pair(text[2 * i], text[2 * i + 1])?;
+    }
+    Some(count)
 }

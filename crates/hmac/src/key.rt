@@ -15,11 +15,7 @@ fn filled(key: &[u8]) -> [u8; 64]
     ensures { result ≡ rfc.filled key.now }
 {
     let mut block = [0u8; 64];
-    let mut i: usize = 0;
-    while i < key.len() {
-        block[i] = key[i];
-        i += 1;
-    }
+    block[..key.len()].copy_from_slice(key);
     block
 }
 
@@ -31,8 +27,7 @@ pub fn key_block(key: &[u8]) -> [u8; 64]
     if key.len() <= 64 {
         return filled(key);
     }
-    let hashed = digest(key, b"", b"", b"");
-    filled(&hashed)
+    filled(&digest(key, b"", b"", b""))
 }
 
 // A block with each byte XORed with one and the same.
@@ -40,10 +35,8 @@ pub fn masked(block: [u8; 64], mask: u8) -> [u8; 64]
     ensures { result ≡ block ⊕ replicate 64 mask }
 {
     let mut out = block;
-    let mut i: usize = 0;
-    while i < 64 {
-        out[i] = out[i] ^ mask;
-        i += 1;
+    for b in &mut out {
+        *b ^= mask;
     }
     out
 }

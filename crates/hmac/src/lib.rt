@@ -10,6 +10,7 @@ ghost use Rattle.hmac.specs.Hmac.{HMAC, keyed_by};
 use compression::Working;
 use hash::{digest_of_value, state_after};
 use key::{key_block, masked, value_of};
+use padding::parts::Message;
 
 // A key of HMAC, made ready: the hash values after its block under ipad and under opad. Plain data, for as many messages as there are.
 #[derive(Clone, Copy)]
@@ -31,12 +32,20 @@ pub fn ready_key(key: &[u8]) -> Keyed
 }
 
 // HMAC with SHA-256, under the key that was made ready, of the three parts one after another. With the key's block they are hashed as one message,
-// so they are shorter than 2^64 bits together. No more than a block of them is copied at a time.
+// so they are shorter than 2^64 bits together. No more than a block of them is copied at a time. Kept: three slices, as the public call over parts has
+// them (`hash_calls::hmac_sha256_parts`).
 pub fn hmac_under(key: Keyed, head: &[u8], tail: &[u8], last: &[u8]) -> [u8; 32]
     requires { 64 + (length head.now + length tail.now + length last.now) < 2 ^ 61 }
     ensures { (k : List ℕ) → key ≡ keyed_by k → result ≡ HMAC k (head.now ++ (tail.now ++ last.now)) }
 {
-    let inner = state_after(key.inner, 64, head, tail, last, b"");
+    let message = Message {
+        first: head,
+        head: tail,
+        tail: last,
+        last: b"",
+        before: 64,
+    };
+    let inner = state_after(key.inner, &message);
     digest_of_value(key.outer, inner)
 }
 

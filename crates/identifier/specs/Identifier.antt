@@ -1,11 +1,12 @@
 -- The ephemeral identifier of an identity key and a window, and its r, over the curve: the accessory rules' "Ephemeral identifier (EID) computation"
 -- (source document 004) with SEC 1 and SEC 2. "Compute r' by AES-256 over the 32 bytes of the accessory rules' table 10 (11 bytes FF, K, the window;
 -- 11 zero bytes, K, the window), then r = r' mod n and the x coordinate of r times G on SECP160R1, from SEC 2."
-use Rattle.std.specs.Prelude.{ℕ, ◌/◌, ◌%◌, ◌≡◌, Bool, not, List, ◌∷◌, ◌++◌, eqb, replicate}
+use Rattle.std.specs.Prelude.{ℕ, ◌/◌, ◌%◌, ◌≡◌, not, List, ◌∷◌, ◌++◌, eqb, replicate, Option, is_some, IfSome}
 use Rattle.laws.specs.Bytes.{big_endian, number}
 use Rattle.sizes.specs.Sizes.{rotation_exponent}
 use Rattle.primitives.specs.Standards.{AES256}
 use Rattle.curve_laws.specs.Curves.{Curve, x_times_g}
+use Rattle.identifier.specs.declared.Identifier.{Identifier}
 
 -- Table 10, a half of it. Octets 0 to 10 (16 to 26): padding, 0xFF (0x00). 11 (27): K, the exponent of the rotation period. 12 to 15 (28 to 31): the
 -- beacon's time counter, 32 bits, big-endian, its K lowest bits cleared, which is the window
@@ -33,8 +34,8 @@ identifier_by c r = big_endian (coordinate_size c) (x_times_g c r)
 unfoldable pub aligned : Curve → ℕ → List ℕ
 aligned c r = big_endian (coordinate_size c) r
 
--- What is worked out from r': whether there is an identifier, which there is not "if r is 0 before the cut"; r after the cut; and the identifier
-pub record WorksOut (c : Curve) (r' : List ℕ) (some : Bool) (r id : List ℕ) : Type 0 where
-  pub some_is : some ≡ not (eqb (scalar c r') 0)
-  pub r_is : r ≡ aligned c (scalar c r')
-  pub id_is : id ≡ identifier_by c (scalar c r')
+-- What is worked out from r': an identifier, with r after the cut; none "if r is 0 before the cut"
+pub record WorksOut (c : Curve) (r' : List ℕ) (i : Option Identifier) : Type 0 where
+  pub some_is : is_some i ≡ not (eqb (scalar c r') 0)
+  pub r_is : IfSome i (λ i. i.r ≡ aligned c (scalar c r'))
+  pub id_is : IfSome i (λ i. i.id ≡ identifier_by c (scalar c r'))

@@ -13,10 +13,9 @@ const NUMBER_SIZE: usize = 2 * BLOCK_SIZE;
 
 const ABOVE_R: usize = NUMBER_SIZE - IDENTIFIER_SIZE;
 
-// An identifier of SECP160R1 and its r, cut or padded to as many bytes. Where r is 0 there is none, and both are zeros.
+// An identifier of SECP160R1 and its r, cut or padded to as many bytes.
 #[derive(Clone, Copy)]
-pub struct Identifier160 {
-    pub some: bool,
+pub struct Identifier {
     pub r: [u8; IDENTIFIER_SIZE],
     pub id: [u8; IDENTIFIER_SIZE],
 }
@@ -28,7 +27,7 @@ fn half(padding: u8, window: u32) -> [u8; BLOCK_SIZE]
     let mut block = [padding; BLOCK_SIZE];
     let exponent = [ROTATION_EXPONENT];
     octets::put(&mut block, 11, &exponent);
-    let counter = octets::four(window);
+    let counter = window.to_be_bytes();
     octets::put(&mut block, 12, &counter);
     block
 }
@@ -38,29 +37,26 @@ fn pseudorandom(key: [u8; IDENTITY_KEY_SIZE], window: u32) -> [u8; NUMBER_SIZE]
     ensures { result ≡ pseudorandom_of key window }
 {
     let cipher = primitives::encrypt256_pair(key, half(0xFF, window), half(0x00, window));
-    let head = cipher.first;
-    let tail = cipher.second;
-    octets::joined(head, tail)
+    octets::joined(cipher.first, cipher.second)
 }
 
-// The identifier of r': r = r' mod n, the x coordinate of r times G, and r cut or padded.
-pub fn from_number(number: [u8; NUMBER_SIZE]) -> Identifier160
-    ensures { WorksOut SECP160R1 number result.some result.r result.id }
+// The identifier of r': r = r' mod n, the x coordinate of r times G, and r cut or padded. None where r is 0.
+pub fn from_number(number: [u8; NUMBER_SIZE]) -> Option<Identifier>
+    ensures { WorksOut SECP160R1 number result }
 {
     let m = secp160r1(number);
-    let r = m.r;
-    let id = m.x;
-    let some = !octets::all_zero(&r);
-    Identifier160 {
-        some,
-        r: octets::twenty(&r[ABOVE_R..]),
-        id,
+    if octets::all_zero(&m.r) {
+        return None;
     }
+    Some(Identifier {
+        r: octets::array(&m.r[ABOVE_R..]),
+        id: m.x,
+    })
 }
 
 // The identifier of an identity key and a window.
-pub fn of_key(key: [u8; IDENTITY_KEY_SIZE], window: u32) -> Identifier160
-    ensures { WorksOut SECP160R1 (pseudorandom_of key window) result.some result.r result.id }
+pub fn of_key(key: [u8; IDENTITY_KEY_SIZE], window: u32) -> Option<Identifier>
+    ensures { WorksOut SECP160R1 (pseudorandom_of key window) result }
 {
     from_number(pseudorandom(key, window))
 }

@@ -10,9 +10,7 @@ pub fn unmix_keys(nr: usize, keys: &mut [u32])
     requires { (1 ≤ nr) × ((nr ≤ 14) × (length keys.old ≡ 4 * (nr + 1))) }
     ensures { InverseKeys nr keys.old keys.new }
 {
-    let mut i: usize = 4;
-    while i < 4 * nr {
+    for i in 4..4 * nr {
         keys[i] = unmixed(keys[i]);
-        i += 1;
     }
 }

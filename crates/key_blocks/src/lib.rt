@@ -11,7 +11,7 @@ fn block_at(s: &[u8], at: usize) -> [u8; BLOCK_SIZE]
     requires { at + block_size ≤ length s.now }
     ensures { result ≡ take block_size (drop at s.now) }
 {
-    octets::sixteen(&s[at..at + BLOCK_SIZE])
+    octets::array(&s[at..at + BLOCK_SIZE])
 }
 
 // The identity key that 0x02 carries, decrypted with the owner key.
@@ -22,9 +22,7 @@ pub fn decrypted_key(key: [u8; ACCOUNT_KEY_SIZE], cipher: &[u8]) -> [u8; IDENTIT
     let first = block_at(cipher, 0);
     let second = block_at(cipher, BLOCK_SIZE);
     let plain = primitives::decrypt_pair(key, first, second);
-    let head = plain.first;
-    let tail = plain.second;
-    octets::joined(head, tail)
+    octets::joined(plain.first, plain.second)
 }
 
 // The identity key, encrypted with the owner key.
@@ -37,7 +35,5 @@ pub fn encrypted_key(
     let first = block_at(&identity, 0);
     let second = block_at(&identity, BLOCK_SIZE);
     let cipher = primitives::encrypt_pair(key, first, second);
-    let head = cipher.first;
-    let tail = cipher.second;
-    octets::joined(head, tail)
+    octets::joined(cipher.first, cipher.second)
 }

@@ -13,8 +13,7 @@ fn held(a: Accounts, key: &[u8]) -> bool
     requires { accounts_legal a ≡ true }
     ensures { result ≡ among key.now (held_keys a) }
 {
-    let keys = a.keys;
-    tables::among(key, &keys, ACCOUNT_KEY_SIZE, 0, a.count)
+    tables::among(key, &a.keys, ACCOUNT_KEY_SIZE, 0, a.count)
 }
 
 // Adds a key to a well-formed unit.
@@ -25,12 +24,9 @@ pub fn added(u: TagUnit, key: &[u8]) -> Step
     if key.len() != ACCOUNT_KEY_SIZE {
         return end::refuse(u, Refusal::WrongAccountKey);
     }
-    let a = u.accounts;
-    if held(a, key) {
+    if held(u.accounts, key) {
         return end::accept(u, 0);
     }
-    let more = account_keys::added(a, key);
-    let mut after = u;
-    after.accounts = more;
-    end::accept(after, 0)
+    let accounts = account_keys::added(u.accounts, key);
+    end::accept(TagUnit { accounts, ..u }, 0)
 }

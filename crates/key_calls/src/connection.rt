@@ -8,21 +8,16 @@ use unit::{TagUnit, change};
 fn brought_in(u: TagUnit) -> TagUnit
     ensures { result ≡ brought_in u }
 {
-    let key = u.waiting;
-    let mut after = change::silenced(u);
-    after.identity = key;
-    let none = change::no_identity();
-    after.waiting = none;
-    after
+    TagUnit {
+        identity: u.waiting,
+        waiting: change::no_identity(),
+        ..change::silenced(u)
+    }
 }
 
 // The unit after a connection.
 pub fn ended(u: TagUnit) -> TagUnit
     ensures { result ≡ cond u.waiting.held (brought_in u) u }
 {
-    let key = u.waiting;
-    if key.held {
-        return brought_in(u);
-    }
-    u
+    if u.waiting.held { brought_in(u) } else { u }
 }

@@ -2,13 +2,14 @@
 use mathlib.Core.Path.{◌≡◌, refl, sym, ap, ◌∙◌}
 use mathlib.Core.List.{List, [], ◌∷◌, ◌++◌}
 use Prim.Native.Nat.{ℕ, zero, suc, ◌+◌, ◌-◌, ◌*◌, ◌/◌, ◌%◌, ◌^◌, ◌≤◌, ◌<◌}
-use native.Mathlib.Nat.{div-one}
+use native.Mathlib.Nat.{div-one, div-div-eq-div-mul}
 use native.Mathlib.Omega.{arith}
 use native.Mathlib.Decide.{dec_lt}
 use lib.ListN.{length, get_or, take, drop, length-append, get_or-append}
 use lib.Seq.{get_or_at, drop-cons}
 use lib.Pow.{shr-shr}
-use Rattle.laws.specs.Bytes.{big_endian, number}
+use Rattle.std.specs.Int.{w16, w32, w64, to_be_bytes, from_be_bytes}
+use Rattle.laws.specs.Bytes.{big_endian, number, number_after}
 
 pub length_big_endian : (k n : ℕ) → length (big_endian k n) ≡ k
 unfolding big_endian
@@ -43,3 +44,20 @@ number_four p k h =
     let all : drop k p ≡ get_or p k 0 ∷ get_or p (k + 1) 0 ∷ get_or p (k + 2) 0 ∷ get_or p (k + 3) 0 ∷ drop (suc (k + 3)) p
     = rw (drop-cons p k 0 (omega arith), e1, drop-cons p (k + 1) 0 (omega arith), e2, drop-cons p (k + 2) 0 (omega arith), e3, drop-cons p (k + 3) 0 (omega arith)) in
     ap (λ (l : List ℕ). number (take 4 l)) all
+
+-- std's bytes of a number of 16, of 32 or of 64 bits, and its number of four bytes
+pub two_bytes : (n : ℕ) → to_be_bytes w16 n ≡ big_endian 2 n
+unfolding big_endian
+two_bytes n = refl
+
+pub four_bytes : (n : ℕ) → to_be_bytes w32 n ≡ big_endian 4 n
+unfolding big_endian
+four_bytes n = simp div-div-eq-div-mul
+
+pub eight_bytes : (n : ℕ) → to_be_bytes w64 n ≡ big_endian 8 n
+unfolding big_endian
+eight_bytes n = simp div-div-eq-div-mul
+
+pub of_four : (a b c d : ℕ) → from_be_bytes w32 (a ∷ b ∷ c ∷ d ∷ []) ≡ number (a ∷ b ∷ c ∷ d ∷ [])
+unfolding number number_after
+of_four a b c d = omega arith

@@ -1,13 +1,14 @@
 -- Laws of `same_bytes` and `all_zero`: the tests hold exactly of equal lists and of lists of zeros, and how a loop that goes from the
 -- front decides them.
 use Prim.Native.Nat.{ℕ, zero, suc, ◌+◌, ◌≤◌, ◌<◌}
-use mathlib.Core.Path.{◌≡◌, refl, sym, ap, ◌∙◌}
-use mathlib.Core.Bool.{true, false, ◌&&◌}
+use mathlib.Core.Path.{◌≡◌, refl, sym, ap}
+use mathlib.Core.Bool.{Bool, true, false, ◌&&◌}
 use mathlib.Core.List.{List, [], ◌∷◌}
 use native.Mathlib.Numerals.{add-one}
 use lib.Dec.{eqb}
 use lib.ListN.{length, get_or, drop, replicate, drop_of_length-le}
 use lib.Seq.{drop-cons, drop-drop}
+use lib.Pointwise.{pointwise}
 use borrow.Author.Tests.{eqb-true, eq-eqb}
 use Rattle.laws.specs.Bytes.{same_bytes, all_zero}
 use Rattle.laws.proofs.Flags.{and_left, and_right, both, fails, agree, clash}
@@ -16,6 +17,14 @@ pub same_refl : (a : List ℕ) → same_bytes a a ≡ true
 unfolding same_bytes
 same_refl [] = refl
 same_refl (x ∷ xs) = both (eq-eqb x x refl) (same_refl xs)
+
+-- std's test of lists is this one
+pub pointwise_same : (a b : List ℕ) → pointwise eqb a b ≡ same_bytes a b
+unfolding same_bytes
+pointwise_same [] [] = refl
+pointwise_same [] (y ∷ ys) = refl
+pointwise_same (x ∷ xs) [] = refl
+pointwise_same (x ∷ xs) (y ∷ ys) = ap (λ (t : Bool). eqb x y && t) (pointwise_same xs ys)
 
 pub same_equal : (a b : List ℕ) → same_bytes a b ≡ true → a ≡ b
 unfolding same_bytes

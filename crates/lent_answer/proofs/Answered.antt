@@ -10,8 +10,9 @@ use lib.Dec.{T, eqb, eqb→eq}
 use lib.ListN.{length}
 use Rattle.laws.specs.Answer.{Result, gives, lent_after}
 use Rattle.laws.proofs.Copied.{nothing_left}
-use Rattle.lent_answer.specs.Ends.{Ends, or_refusal}
-use Rattle.lent_answer.specs.declared.Ending.{Ending}
+use Rattle.std.specs.Prelude.{Ok, Err}
+use Rattle.lent_answer.specs.Ends.{Ending, Ends, or_refusal}
+use Rattle.lent_answer.specs.declared.WrongSize.{WrongSize}
 
 -- an answer as long as the lent bytes is all that they hold after it
 pub lent_all : (answer before : List ℕ) → length answer ≡ length before → lent_after (gives answer) before ≡ answer
@@ -29,13 +30,13 @@ three a b c t = let p = both a (b && c) t in (p.0, both b c p.1)
 
 -- a call with the test `test` of its sizes
 module _ (answer before : List ℕ) where
-  pub refused : (test : Bool) → (T test → ⊥) → Ends (or_refusal test answer) Ending.WrongSize before before
+  pub refused : (size : WrongSize) (test : Bool) → (T test → ⊥) → Ends (or_refusal test answer) (Err size) before before
   unfolding or_refusal lent_after
-  refused true fails = absurd (fails tt)
-  refused false fails = record { end_is = refl; bytes_are = refl }
+  refused size true fails = absurd (fails tt)
+  refused size false fails = record { end_is = refl; bytes_are = refl }
 
   answered : (test : Bool) (after : List ℕ) → test ≡ true → length after ≡ length before → after ≡ answer
-      → Ends (or_refusal test answer) Ending.Done before after
+      → Ends (or_refusal test answer) (Ok tt) before after
   unfolding or_refusal
   answered test after e n a =
       rw e (record { end_is = refl; bytes_are = a ∙ sym (lent_all answer before (sym (ap length a) ∙ n)) })
@@ -45,17 +46,12 @@ module _ (bytes before : List ℕ) where
   abbrev pub exactly : Result
   exactly = or_refusal (eqb (length before) (length bytes)) bytes
 
-  pub given_all : (after : List ℕ) → length before ≡ length bytes → after ≡ bytes → Ends exactly Ending.Done before after
+  pub given_all : (after : List ℕ) → length before ≡ length bytes → after ≡ bytes → Ends exactly (Ok tt) before after
   given_all after n a =
       answered bytes before (eqb (length before) (length bytes)) after (eq-eqb _ _ n) (ap length a ∙ sym n) a
 
-  pub given_none : (length before ≡ length bytes → ⊥) → Ends exactly Ending.WrongSize before before
-  given_none differ = refused bytes before (eqb (length before) (length bytes)) (λ t. differ (eqb→eq _ _ t))
-
-  -- and where they are as many, they are all given
-  pub all_given : (after : List ℕ) (end : Ending) → length before ≡ length bytes → Ends exactly end before after → after ≡ bytes
-  unfolding or_refusal
-  all_given after end n g = (rw (eq-eqb _ _ n) at g.bytes_are) ∙ lent_all bytes before (sym n)
+  pub given_none : (size : WrongSize) → (length before ≡ length bytes → ⊥) → Ends exactly (Err size) before before
+  given_none size differ = refused bytes before size (eqb (length before) (length bytes)) (λ t. differ (eqb→eq _ _ t))
 
   -- under a test of the other sizes that holds, `n` being as many bytes as the answer has
   pub given : (test : Bool) (n : ℕ) (answer : List ℕ) (end : Ending) (after : List ℕ) → test ≡ true → length bytes ≡ n → bytes ≡ answer

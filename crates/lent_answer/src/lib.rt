@@ -3,24 +3,25 @@
 ghost use Rattle.std.specs.Prelude.{eqb, length};
 ghost use Rattle.lent_answer.specs.Ends.{Ends, or_refusal};
 
-// The end of a call: the answer is written, or a length is not as the call asks (refusal 7) and nothing is written.
-#[derive(Clone, Copy)]
-pub enum Ending {
-    Done,
-    WrongSize,
+use std::array::TryFromSliceError;
+
+// A length is not as the call asks (refusal 7), and nothing is written.
+#[derive(Clone, Copy, Debug, Drop)]
+pub struct WrongSize;
+
+impl From<TryFromSliceError> for WrongSize {
+    fn from(_: TryFromSliceError) -> Self {
+        WrongSize
+    }
 }
 
 // Gives the bytes where the answer has room for exactly them. Otherwise refusal 7, and none of them is written.
-pub fn give(answer: &mut [u8], bytes: &[u8]) -> Ending
+pub fn give(answer: &mut [u8], bytes: &[u8]) -> Result<(), WrongSize>
     ensures { Ends (or_refusal (eqb (length answer.old) (length bytes.now)) bytes.now) result answer.old answer.new }
 {
-    let mut i = 0;
-    while answer.len() == bytes.len() && i < bytes.len() {
-        answer[i] = bytes[i];
-        i += 1;
+    if answer.len() != bytes.len() {
+        return Err(WrongSize);
     }
-    if answer.len() == bytes.len() {
-        return Ending::Done;
-    }
-    Ending::WrongSize
+    answer.copy_from_slice(bytes);
+    Ok(())
 }

@@ -19,5 +19,5 @@ pub fn low(s: u64) -> u32
 pub fn high(s: u64) -> u32
     ensures { result ≡ s / 4294967296 }
 {
-    (s / 4294967296) as u32
+    (s >> 32) as u32
 }

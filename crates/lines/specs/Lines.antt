@@ -1,8 +1,8 @@
 -- "Replay file": the lines, which one is to stand next, and what each brings.
-use Rattle.std.specs.Prelude.{ℕ, cond, List, [], ℤ}
-use Rattle.std.proofs.Math.Option.{Option, none, some}
+use Rattle.std.specs.Prelude.{ℕ, cond, List, ℤ}
+use Rattle.std.specs.Prelude.{Option, None, Some}
 use Rattle.laws.specs.Bytes.{same_bytes}
-use Rattle.tag.specs.Calls.{Call, read, write, button, pairing, battery, account_key, disconnect, frame}
+use Rattle.tag.specs.Calls.{read, write, button, pairing, battery, account_key, disconnect, frame}
 use Rattle.notation.specs.Text.{ascii}
 use Rattle.reading.specs.Reading.{after, unsigned, signed, flag}
 use Rattle.hex_reading.specs.Hex.{bytes, one_byte}
@@ -37,8 +37,8 @@ pub data Line : Type 0 where
 -- go on with a value, if there is one
 module _ {A : Type 0} where
   abbrev pub given : Option A → (A → Line) → Line
-  given none f = breaks
-  given (some a) f = f a
+  given None f = breaks
+  given (Some a) f = f a
 
 -- an event by its name
 unfoldable pub named : List ℕ → Line

@@ -1,6 +1,6 @@
 -- What the functions of this crate promise, over the types of the code.
-use Rattle.std.specs.Prelude.{ℕ, ◌≤◌, ◌≡◌, List, [], take, ℤ}
-use Rattle.std.proofs.Math.Option.{Option}
+use Rattle.std.specs.Prelude.{ℕ, ◌≤◌, ◌≡◌, List, take, ℤ}
+use Rattle.std.specs.Prelude.{Option, None, Some}
 use Rattle.reading.specs.Reading.{after}
 use Rattle.events.specs.Promises.{event_of}
 use Rattle.lines.specs.declared.Awaited as code
@@ -38,20 +38,32 @@ line_of told_as.Volume p c kept n b = sets_up p c n
 line_of (told_as.Follows a) p c kept n b = follows (awaiting a p c kept)
 line_of (told_as.Keeps a) p c kept n b = follows (awaiting a p c b)
 line_of (told_as.Brings e) p c kept n b = brings (event_of e n kept b)
-line_of told_as.Breaks p c kept n b = breaks
+
+-- the same of one that may be none: it breaks the order
+abbrev pub line_or : Option told.Line → ℤ → ℕ → List ℕ → ℕ → List ℕ → Line
+line_or None p c kept n b = breaks
+line_or (Some line) p c kept n b = line_of line p c kept n b
+
+abbrev pub told_or : Option Told → ℤ → ℕ → List ℕ → List ℕ → Line
+told_or None p c kept bytes = breaks
+told_or (Some t) p c kept bytes = line_of t.line p c kept t.number (take t.count bytes)
+
+-- the bytes of it that stand at the front of those lent
+abbrev pub count_of : Option Told → ℕ
+count_of None = 0
+count_of (Some t) = t.count
 
 -- a line of the code stands for this one, whatever was read before and stands beside it
-pub record Means (l : Line) (line : told.Line) : Type 0 where
-  pub line_is : (p : ℤ) (c : ℕ) (kept : List ℕ) (n : ℕ) (b : List ℕ) → line_of line p c kept n b ≡ l
+pub record Means (l : Line) (line : Option told.Line) : Type 0 where
+  pub line_is : (p : ℤ) (c : ℕ) (kept : List ℕ) (n : ℕ) (b : List ℕ) → line_or line p c kept n b ≡ l
 
--- the same of one with its number, and of one with its bytes
-pub record SaysNumber (l : ℤ → ℕ → List ℕ → Line) (t : Told) : Type 0 where
-  pub line_is : (p : ℤ) (c : ℕ) (kept : List ℕ) → line_of t.line p c kept t.number [] ≡ l p c kept
-  pub no_bytes : t.count ≡ 0
+-- the same of one with its bytes, and of one with its number alone
+pub record Says (l : ℤ → ℕ → List ℕ → Line) (t : Option Told) (bytes : List ℕ) : Type 0 where
+  pub line_is : (p : ℤ) (c : ℕ) (kept : List ℕ) → told_or t p c kept bytes ≡ l p c kept
+  pub within_room : count_of t ≤ 128
 
-pub record Says (l : ℤ → ℕ → List ℕ → Line) (t : Told) (bytes : List ℕ) : Type 0 where
-  pub line_is : (p : ℤ) (c : ℕ) (kept : List ℕ) → line_of t.line p c kept t.number (take t.count bytes) ≡ l p c kept
-  pub within_room : t.count ≤ 128
+abbrev pub SaysNumber : (ℤ → ℕ → List ℕ → Line) → Option Told → Type 0
+SaysNumber l t = (bytes : List ℕ) → Says l t bytes
 
 -- the line that a value behind a key makes
 module _ {A : Type 0} where

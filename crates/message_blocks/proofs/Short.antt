@@ -1,21 +1,18 @@
 -- A message under 56 bytes has one block with its padding. Its parts put one after another into 64 zeros, then the mark: these are the block's
 -- bytes up to the length, which is put in as the last two words.
-use mathlib.Core.Path.{◌≡◌, refl, sym, ap, ◌∙◌}
+use mathlib.Core.Path.{◌≡◌, sym, ap, ◌∙◌}
 use mathlib.Core.List.{List, [], ◌∷◌, ◌++◌, append_assoc}
-use Prim.Native.Nat.{ℕ, zero, suc, ◌+◌, ◌-◌, ◌*◌, ◌/◌, ◌%◌, ◌^◌, ◌≤◌, ◌<◌}
+use Prim.Native.Nat.{ℕ, ◌+◌, ◌-◌, ◌*◌, ◌/◌, ◌%◌, ◌^◌, ◌≤◌, ◌<◌}
 use native.Mathlib.Omega.{arith}
 use native.Mathlib.Decide.{dec_lt}
-use native.Mathlib.Nat.{div-div-eq-div-mul}
 use lib.ListN.{length, get_or, take, drop, set, replicate, length-append, length-replicate, length-set, replicate-append-replicate}
-use lib.Seq.{drop_at, take_all, get_or-set_same, get_or-set_other}
-use Rattle.laws.specs.Bytes.{tabulate, big_endian, number, number_after}
+use lib.Seq.{drop_at, get_or-set_same, get_or-set_other}
+use Rattle.laws.specs.Bytes.{big_endian, number, number_after}
 use Rattle.laws.proofs.Tabulate.{get_or_tabulate, is_tabulate}
 use Rattle.laws.proofs.Joined.{run_before, run_after}
-use Rattle.laws.proofs.BigEndian.{length_big_endian}
 use Rattle.octets.specs.Put.{pasted}
 use Rattle.octets.proofs.Pasting.{pasted_next, set_pasted, length_pasted}
 use Rattle.octets.proofs.Numbers.{number_big_endian}
-use Rattle.octets.proofs.LowBytes.{drop_big_endian}
 use Rattle.padding.specs.Padding.{zeros, words_at}
 use Rattle.padding.specs.Blocks.{followed}
 use Rattle.padding.proofs.Padded.{length_parts, length_words, length_followed, followed_parts}
@@ -141,9 +138,5 @@ module _ (f h t l : List ℕ) (short : length f + length h + length t + length l
       rw len (with_length before whole message few w (rw len at fits) words)
 
 -- it has no other bytes than the first 64
-pub only_these : (before : ℕ) (f h t l : List ℕ) (at : ℕ) → before % 64 ≡ 0 → length f + length h + length t + length l < 56
-    → at + 64 ≤ length (followed before (f ++ (h ++ (t ++ l)))) → 0 ≡ at
-only_these before f h t l at whole short b =
-    let m : List ℕ = f ++ (h ++ (t ++ l)) in
-    let size : length m < 56 = rw length_parts short in
-    omega (arith, length_followed before whole m, few before whole m size)
+pub only_these : (before : ℕ) (m : List ℕ) (at : ℕ) → before % 64 ≡ 0 → length m < 56 → at + 64 ≤ length (followed before m) → 0 ≡ at
+only_these before m at whole short b = omega (arith, length_followed before whole m, few before whole m short)

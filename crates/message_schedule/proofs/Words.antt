@@ -1,14 +1,11 @@
 -- The message schedule: its length, that a word stays as it grows, and the equation of word 16 + t.
-use mathlib.Core.Path.{◌≡◌, refl, sym, ap, ◌∙◌}
+use mathlib.Core.Path.{◌≡◌, ◌∙◌}
 use mathlib.Core.List.{List, [], ◌∷◌}
-use Prim.Native.Nat.{ℕ, zero, suc, ◌+◌, ◌-◌, ◌%◌, ◌≤◌, ◌<◌}
+use Prim.Native.Nat.{ℕ, zero, suc, ◌+◌, ◌-◌, ◌<◌}
 use native.Mathlib.Nat.{add-suc, add-zero, zero-add}
 use native.Mathlib.Omega.{arith}
-use native.Mathlib.Decide.{dec_lt}
-use lib.ListN.{length, get_or, set, drop, length-append, length-drop, get_or-append}
-use lib.Seq.{get_or_at, get_or-drop}
-use Rattle.laws.specs.Bytes.{tabulate}
-use Rattle.laws.proofs.Tabulate.{length_tabulate, get_or_tabulate, is_tabulate, tabulate_suc, filled_to, filled_turn, filled_all, filled_done, filled_rest}
+use lib.ListN.{length, get_or, length-append, get_or-append}
+use lib.Seq.{get_or_at}
 use Rattle.message_schedule.specs.Schedule.{mod32, σ0, σ1, next_word, schedule, W}
 
 -- the sum of next_word over any words

@@ -9,8 +9,10 @@ use super::word::{small_sigma0, small_sigma1};
 fn word_from(w2: u32, w7: u32, w15: u32, w16: u32) -> u32
     ensures { result ≡ mod32 (σ1 w2 + w7 + σ0 w15 + w16) }
 {
-    let sum = small_sigma1(w2) as u64 + w7 as u64 + small_sigma0(w15) as u64 + w16 as u64;
-    (sum % 4294967296) as u32
+    small_sigma1(w2)
+        .wrapping_add(w7)
+        .wrapping_add(small_sigma0(w15))
+        .wrapping_add(w16)
 }
 
 // A word from word 16 on, made at its turn. It takes the place of the word sixteen before it, which is needed for it and for none after it:

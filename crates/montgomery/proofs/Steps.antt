@@ -43,10 +43,12 @@ module _ (t b m : List ℕ) (x q top : ℕ) (width : length t ≡ length m) (wid
       (ap (λ (k : ℕ). 4294967296 * k) (over_turn t (i - 1) a w v (over (take (i - 1) t) v) (omega arith) same refl) ∙ whole)
 
   -- the carries and top are what is left
-  pub step_end : (i c d s a h n : ℕ) → 1 ≤ i → length m ≡ i → s ≡ top + c + d → a ≡ s % 4294967296 → h ≡ s / 4294967296
-      → 4294967296 * over (take (i - 1) t) (c + d + over (drop i t) top + x * value (drop i b) + q * value (drop i m)) ≡ n
-      → 4294967296 * over (set t (i - 1) a) h ≡ n
-  step_end i c d s a h n l e f g k whole =
+  pub step_end : (c d s a h n : ℕ) → 0 < length m → s ≡ top + c + d → a ≡ s % 4294967296 → h ≡ s / 4294967296
+      → 4294967296
+      * over (take (length m - 1) t) (c + d + over (drop (length m) t) top + x * value (drop (length m) b) + q * value (drop (length m) m)) ≡ n
+      → 4294967296 * over (set t (length m - 1) a) h ≡ n
+  step_end c d s a h n l f g k whole =
+      let i : ℕ = length m in
       let v : ℕ = c + d + over (drop i t) top + x * value (drop i b) + q * value (drop i m) in
       let same : a + 4294967296 * h ≡ v =
       omega (arith, over_end t i top (omega arith), ap (λ (j : ℕ). x * j) (value_end b i (omega arith)), ap (λ (j : ℕ). q * j) (value_end m i (omega arith))) in

@@ -18,17 +18,15 @@ fn step(t: &mut [u32], top: u32, x: u32, b: &[u32], m: &[u32], inv: u32) -> u32
     let q = low(sum(0, bottom, inv, 0));
     let mut carry = high(first);
     let mut carry_m = high(sum(bottom, q, m[0], 0));
-    let mut i: usize = 1;
-    while i < m.len() {
+    for i in 1..m.len() {
         let s = sum(t[i], x, b[i], carry);
         carry = high(s);
         let z = sum(low(s), q, m[i], carry_m);
         carry_m = high(z);
         t[i - 1] = low(z);
-        i += 1;
     }
     let last = top as u64 + carry as u64 + carry_m as u64;
-    t[i - 1] = low(last);
+    t[m.len() - 1] = low(last);
     high(last)
 }
 
@@ -38,10 +36,8 @@ pub fn montgomery(t: &mut [u32], a: &[u32], b: &[u32], m: &[u32], inv: u32)
     ensures { Below t.new m.now × (value t.new * 4294967296 ^ length m.now % value m.now ≡ value a.now * value b.now % value m.now) }
 {
     let mut top: u32 = 0;
-    let mut i: usize = 0;
-    while i < m.len() {
-        top = step(t, top, a[i], b, m, inv);
-        i += 1;
+    for &x in a {
+        top = step(t, top, x, b, m, inv);
     }
     reduce_once(t, top, m);
 }

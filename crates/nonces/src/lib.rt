@@ -10,6 +10,7 @@ ghost use Rattle.nonces.specs.Nonces.{no_nonces, nonces_legal, nonce_fits, count
 use sizes::{EARLIER_ROOM, MOST_NONCES, NONCE_SIZE, NONCES_ROOM};
 
 // How many there are; whether the newest is live, that is not yet spent by a write; the newest; and those before it, newest first, a table.
+// Kept: no heap, fixed memory: any record may be handed in, also one with bytes behind its nonces, which `legal` judges.
 #[derive(Clone, Copy)]
 pub struct Nonces {
     pub count: u8,
@@ -45,11 +46,7 @@ fn rows_legal(all: [u8; NONCES_ROOM], count: usize) -> bool
     requires { count ≤ most_nonces }
     ensures { result ≡ (distinct (rows nonce_size count all) && all_zero (drop (count * nonce_size) all)) }
 {
-    if !tables::distinct(&all, NONCE_SIZE, count) {
-        return false;
-    }
-    let spare = count * NONCE_SIZE;
-    octets::all_zero(&all[spare..])
+    tables::distinct(&all, NONCE_SIZE, count) && octets::all_zero(&all[count * NONCE_SIZE..])
 }
 
 // Whether a record's nonces are well formed.
@@ -59,15 +56,7 @@ pub fn legal(n: Nonces) -> bool
     if MOST_NONCES < n.count {
         return false;
     }
-    let newest = n.newest;
-    let earlier = n.earlier;
-    if !rows_legal(table(newest, earlier), n.count as usize) {
-        return false;
-    }
-    if n.live {
-        return 0 < n.count;
-    }
-    true
+    rows_legal(table(n.newest, n.earlier), n.count as usize) && (!n.live || 0 < n.count)
 }
 
 // Whether these bytes may be issued: eight of them, and none of the nonces held.
@@ -75,40 +64,27 @@ pub fn fits(n: Nonces, lent: &[u8]) -> bool
     requires { n.count ≤ most_nonces }
     ensures { result ≡ nonce_fits n lent.now }
 {
-    if lent.len() != NONCE_SIZE {
-        return false;
-    }
-    let newest = n.newest;
-    let earlier = n.earlier;
-    let all = table(newest, earlier);
-    !tables::among(lent, &all, NONCE_SIZE, 0, n.count as usize)
+    let all = table(n.newest, n.earlier);
+    lent.len() == NONCE_SIZE && !tables::among(lent, &all, NONCE_SIZE, 0, n.count as usize)
 }
 
 // One more than so many nonces, as far as there is room.
 fn one_more(count: u8) -> u8
     ensures { result ≡ count_after count }
 {
-    if count < MOST_NONCES {
-        return count + 1;
-    }
-    MOST_NONCES
+    count.saturating_add(1).min(MOST_NONCES)
 }
 
 // The nonces with these bytes issued: the newest, and live. Those before it move one place on, and the oldest of sixteen goes.
 pub fn issued(n: Nonces, nonce: [u8; NONCE_SIZE]) -> Nonces
     ensures { result ≡ with_issued nonce n }
 {
-    let count = one_more(n.count);
-    let newest = n.newest;
-    let before = n.earlier;
-    let all = table(newest, before);
-    let mut earlier = [0u8; EARLIER_ROOM];
-    octets::put(&mut earlier, 0, &all[..EARLIER_ROOM]);
+    let all = table(n.newest, n.earlier);
     Nonces {
-        count,
+        count: one_more(n.count),
         live: true,
         newest: nonce,
-        earlier,
+        earlier: octets::array(&all[..EARLIER_ROOM]),
     }
 }
 
@@ -116,7 +92,5 @@ pub fn issued(n: Nonces, nonce: [u8; NONCE_SIZE]) -> Nonces
 pub fn spent(n: Nonces) -> Nonces
     ensures { result ≡ spent_nonces n }
 {
-    let mut after = n;
-    after.live = false;
-    after
+    Nonces { live: false, ..n }
 }

@@ -1,4 +1,5 @@
-// Writing text into lent bytes, from a place on. Each function gives the next place.
+// Writing text into lent bytes, from a place on. Each function gives the next place. Kept: the bytes and the place are two parameters, since a
+// contract over a writer that held both would still name each of them before and after.
 ghost use Rattle.std.specs.Prelude.{◌≡◌, [], ◌∷◌, ◌++◌, ◌+◌, ◌*◌, ◌≤◌, ◌<◌, length};
 ghost use Rattle.notation.specs.Text.{decimal as decimal_of, hex as hex_of, hex_digit, newline};
 ghost use Rattle.notation.specs.Written.{PutsText};
@@ -13,11 +14,12 @@ pub fn put(out: &mut [u8], at: usize, bytes: &[u8]) -> usize
 }
 
 // One hexadecimal digit, in lower case.
+#[tactic(auto, unfolding(crate::specs::Text::hex_digit))]
 fn digit(d: u8) -> u8
     requires { d < 16 }
     ensures { result ≡ hex_digit d }
 {
-    if d < 10 { 48 + d } else { 87 + d }
+    if d < 10 { b'0' + d } else { b'a' + d - 10 }
 }
 
 // Bytes in hexadecimal, two digits each.
@@ -26,13 +28,10 @@ pub fn hex(out: &mut [u8], at: usize, bytes: &[u8]) -> usize
     ensures { PutsText (hex_of bytes.now) at out.old result out.new }
 {
     let mut next = at;
-    let mut i = 0;
-    while i < bytes.len() {
-        let b = bytes[i];
-        out[next] = digit(b / 16);
-        out[next + 1] = digit(b % 16);
+    for b in bytes {
+        out[next] = digit(*b / 16);
+        out[next + 1] = digit(*b % 16);
         next += 2;
-        i += 1;
     }
     next
 }
@@ -57,7 +56,8 @@ pub fn decimal_line(out: &mut [u8], at: usize, key: &[u8], n: u32) -> usize
     put(out, end, b"\n")
 }
 
-// A number in decimal: its digits from the last to the first, and then as text.
+// A number in decimal: its digits from the last to the first, and then as text. Kept: the loop ends at the number's first digit, whose place no
+// `for` would tell, and std writes a number only on the heap or through a formatter.
 fn decimal(out: &mut [u8], at: usize, n: u32) -> usize
     requires { at + 10 ≤ length out.old }
     ensures { PutsText (decimal_of n) at out.old result out.new }
@@ -66,10 +66,10 @@ fn decimal(out: &mut [u8], at: usize, n: u32) -> usize
     let mut first = 9;
     let mut rest = n;
     while 10 <= rest && 0 < first {
-        digits[first] = 48 + (rest % 10) as u8;
+        digits[first] = b'0' + (rest % 10) as u8;
         rest /= 10;
         first -= 1;
     }
-    digits[first] = 48 + (rest % 10) as u8;
+    digits[first] = b'0' + (rest % 10) as u8;
     put(out, at, &digits[first..])
 }

@@ -10,14 +10,11 @@ pub fn put(to: &mut [u8], at: usize, bytes: &[u8])
     requires { at + length bytes.now ≤ length to.old }
     ensures { to.new ≡ pasted to.old at bytes.now }
 {
-    let mut i = 0;
-    while i < bytes.len() {
-        to[at + i] = bytes[i];
-        i += 1;
-    }
+    to[at..at + bytes.len()].copy_from_slice(bytes);
 }
 
-// Whether two slices hold the same bytes. Every byte is looked at, whatever the others are: the differences are gathered.
+// Whether two slices hold the same bytes. Kept: `==` may stop at the first difference, and here every byte is looked at, whatever the others are:
+// the differences are gathered.
 pub fn same(a: &[u8], b: &[u8]) -> bool
     ensures { result ≡ same_bytes a.now b.now }
 {
@@ -25,61 +22,30 @@ pub fn same(a: &[u8], b: &[u8]) -> bool
         return false;
     }
     let mut difference: u8 = 0;
-    let mut i = 0;
-    while i < a.len() {
-        difference = difference | (a[i] ^ b[i]);
-        i += 1;
+    for i in 0..a.len() {
+        difference |= a[i] ^ b[i];
     }
     difference == 0
 }
 
-// Whether every byte is zero. Every byte is looked at, whatever the others are: their bits are gathered.
+// Whether every byte is zero. Kept as `same` is: every byte is looked at, whatever the others are, and their bits are gathered.
 pub fn all_zero(s: &[u8]) -> bool
     ensures { result ≡ all_zero s.now }
 {
     let mut bits: u8 = 0;
-    let mut i = 0;
-    while i < s.len() {
-        bits = bits | s[i];
-        i += 1;
+    for b in s {
+        bits |= *b;
     }
     bits == 0
 }
 
-// The bytes of a slice as an array: one function for each length that is asked for.
-pub fn eight(s: &[u8]) -> [u8; 8]
-    requires { length s.now ≡ 8 }
+// The bytes of a slice as an array of the length that is asked for.
+pub fn array<const N: usize>(s: &[u8]) -> [u8; N]
+    requires { length s.now ≡ N }
     ensures { result ≡ s.now }
 {
-    let mut bytes = [0u8; 8];
-    put(&mut bytes, 0, s);
-    bytes
-}
-
-pub fn sixteen(s: &[u8]) -> [u8; 16]
-    requires { length s.now ≡ 16 }
-    ensures { result ≡ s.now }
-{
-    let mut bytes = [0u8; 16];
-    put(&mut bytes, 0, s);
-    bytes
-}
-
-pub fn twenty(s: &[u8]) -> [u8; 20]
-    requires { length s.now ≡ 20 }
-    ensures { result ≡ s.now }
-{
-    let mut bytes = [0u8; 20];
-    put(&mut bytes, 0, s);
-    bytes
-}
-
-pub fn thirty_two(s: &[u8]) -> [u8; 32]
-    requires { length s.now ≡ 32 }
-    ensures { result ≡ s.now }
-{
-    let mut bytes = [0u8; 32];
-    put(&mut bytes, 0, s);
+    let mut bytes = [0u8; N];
+    bytes.copy_from_slice(s);
     bytes
 }
 
@@ -99,10 +65,8 @@ pub fn number(s: &[u8]) -> u64
     ensures { Reads s.now result }
 {
     let mut n: u64 = 0;
-    let mut i = 0;
-    while i < s.len() {
-        n = n * 256 + s[i] as u64;
-        i += 1;
+    for b in s {
+        n = n * 256 + *b as u64;
     }
     n
 }
@@ -112,29 +76,9 @@ pub fn put_number(to: &mut [u8], at: usize, width: usize, n: u64)
     requires { at + width ≤ length to.old }
     ensures { Puts at width (big_endian width n) to.old to.new }
 {
-    let mut left = width;
     let mut rest = n;
-    while 0 < left {
-        left -= 1;
-        to[at + left] = (rest % 256) as u8;
-        rest = rest / 256;
+    for place in (at..at + width).rev() {
+        to[place] = (rest % 256) as u8;
+        rest /= 256;
     }
-}
-
-// A number's bytes, the most significant first.
-pub fn two(n: u16) -> [u8; 2]
-    ensures { result ≡ big_endian 2 n }
-{
-    [(n / 256) as u8, (n % 256) as u8]
-}
-
-pub fn four(n: u32) -> [u8; 4]
-    ensures { result ≡ big_endian 4 n }
-{
-    [
-        (n / 16777216) as u8,
-        (n / 65536 % 256) as u8,
-        (n / 256 % 256) as u8,
-        (n % 256) as u8,
-    ]
 }

@@ -1,13 +1,13 @@
 -- The padded message: its length, the words of a block that lies in one part of it, and a block that is laid out part by part.
 use mathlib.Core.Path.{◌≡◌, refl, sym, ap, ◌∙◌}
 use mathlib.Core.List.{List, [], ◌∷◌, ◌++◌, append_assoc}
-use Prim.Native.Nat.{ℕ, ◌+◌, ◌-◌, ◌*◌, ◌/◌, ◌%◌, ◌^◌, ◌≤◌, ◌<◌}
+use Prim.Native.Nat.{ℕ, ◌+◌, ◌-◌, ◌*◌, ◌%◌, ◌^◌, ◌≤◌, ◌<◌}
 use native.Mathlib.Omega.{arith}
 use lib.ListN.{length, take, drop, replicate, length-append, length-replicate}
-use Rattle.laws.specs.Bytes.{tabulate, big_endian, number}
+use Rattle.laws.specs.Bytes.{big_endian, number}
 use Rattle.laws.proofs.Joined.{run_before, run_after}
-use Rattle.laws.proofs.BigEndian.{length_big_endian, get_or_big_endian}
-use Rattle.laws.proofs.Tabulate.{length_tabulate, tabulate_ext, is_tabulate}
+use Rattle.laws.proofs.BigEndian.{length_big_endian}
+use Rattle.laws.proofs.Tabulate.{length_tabulate, tabulate_ext}
 use Rattle.padding.specs.Padding.{zeros, padding, pad, words_at, block}
 use Rattle.padding.specs.Blocks.{block_at, followed}
 use Rattle.padding.proofs.Laying.{empty_block, zeros_after}
@@ -26,11 +26,6 @@ module _ (n : ℕ) where
   pub length_padding : length (padding n) ≡ 9 + zeros n
   unfolding padding
   length_padding = omega (arith, length-append (marks n) (big_endian 8 (8 * n)), length_zeros, length_big_endian 8 (8 * n))
-
--- the length field, byte by byte
-pub length_field : (x : ℕ) → big_endian 8 x ≡ tabulate 8 (λ j. x / 2 ^ (8 * (7 - j)) % 256)
-length_field x =
-    is_tabulate 0 8 (λ j. x / 2 ^ (8 * (7 - j)) % 256) (big_endian 8 x) (length_big_endian 8 x) (λ j h. get_or_big_endian 8 x j h)
 
 pub pad_parts : (m : List ℕ) → pad m ≡ m ++ padding (length m)
 unfolding pad

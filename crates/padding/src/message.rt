@@ -1,15 +1,40 @@
 // The padded message of FIPS 180-4, §5.1 and §5.2, of a message that is handed in as four parts: words straight from a part, and the 64 bytes of a
 // block laid out.
-ghost use Rattle.std.specs.Prelude.{◌≡◌, List, [], ◌∷◌, ◌++◌, ℕ, ◌+◌, ◌%◌, ◌^◌, ◌≤◌, ◌<◌, length};
-ghost use Rattle.laws.specs.Bytes.{number, big_endian};
+ghost use Rattle.std.specs.Prelude.{◌≡◌, List, ◌++◌, ℕ, ◌+◌, ◌^◌, ◌≤◌, ◌<◌, length};
 ghost use Rattle.padding.specs.Padding.{words_at};
 ghost use Rattle.padding.specs.Blocks.{block_at, followed};
+ghost use Rattle.padding.specs.Parts.{bytes_of};
 
-// The word of four bytes.
-fn word_of(a: u8, b: u8, c: u8, d: u8) -> u32
-    ensures { result ≡ number (a ∷ b ∷ c ∷ d ∷ []) }
-{
-    a as u32 * 16777216 + b as u32 * 65536 + c as u32 * 256 + d as u32
+use crate::parts::Message;
+
+impl Message<'_> {
+    // The bytes of its parts.
+    pub fn len(&self) -> usize
+        ensures { result ≡ length (bytes_of self.now) }
+    {
+        self.first.len() + self.head.len() + self.tail.len() + self.last.len()
+    }
+
+    // The 64 bytes from byte `at` on of the message and its padding.
+    pub fn laid_out(&self, at: usize) -> [u8; 64]
+        requires { at < 2 ^ 62 }
+        ensures { result ≡ block_at (followed self.now.before (bytes_of self.now)) at }
+    {
+        let second = self.first.len();
+        let third = second + self.head.len();
+        let fourth = third + self.tail.len();
+        let n = fourth + self.last.len();
+        let zeros = (119 - n % 64) % 64;
+        let length = (8 * (self.before + n)).to_be_bytes();
+        let mut block = [0u8; 64];
+        lay(self.first, 0, at, &mut block);
+        lay(self.head, second, at, &mut block);
+        lay(self.tail, third, at, &mut block);
+        lay(self.last, fourth, at, &mut block);
+        lay(b"\x80", n, at, &mut block);
+        lay(&length, n + 1 + zeros, at, &mut block);
+        block
+    }
 }
 
 // Sixteen words straight from a slice, into the buffer.
@@ -17,12 +42,9 @@ pub fn words_at(bytes: &[u8], at: usize, words: &mut [u32; 16])
     requires { (at + 64 ≤ length bytes.now) × (length words.old ≡ 16) }
     ensures { words.new ≡ words_at bytes.now at }
 {
-    let mut t: usize = 0;
-    while t < 16 {
+    for t in 0..16 {
         let k = at + 4 * t;
-        let word = word_of(bytes[k], bytes[k + 1], bytes[k + 2], bytes[k + 3]);
-        words[t] = word;
-        t += 1;
+        words[t] = u32::from_be_bytes([bytes[k], bytes[k + 1], bytes[k + 2], bytes[k + 3]]);
     }
 }
 
@@ -32,50 +54,9 @@ fn lay(part: &[u8], start: usize, at: usize, block: &mut [u8; 64])
     requires { (start + length part.now < 2 ^ 62) × (at < 2 ^ 62) }
     ensures { (m : List ℕ) → length m ≡ start → block.old ≡ block_at m at → block.new ≡ block_at (m ++ part.now) at }
 {
-    let mut k: usize = 0;
-    if start < at {
-        k = at - start;
-    }
-    while k < part.len() && start + k < at + 64 {
+    let from = at.saturating_sub(start);
+    let to = part.len().min((at + 64).saturating_sub(start));
+    for k in from..to {
         block[start + k - at] = part[k];
-        k += 1;
     }
-}
-
-// The length in bits, as eight bytes.
-fn length_bytes(bits: usize) -> [u8; 8]
-    ensures { result ≡ big_endian 8 bits }
-{
-    let mut out = [0u8; 8];
-    let mut i: usize = 0;
-    while i < 8 {
-        out[i] = ((bits >> (8 * (7 - i))) % 256) as u8;
-        i += 1;
-    }
-    out
-}
-
-// The 64 bytes from byte `at` on of the message and its padding, where `before` bytes, in whole blocks, went before it.
-pub fn laid_out(
-    first: &[u8],
-    head: &[u8],
-    tail: &[u8],
-    last: &[u8],
-    before: usize,
-    at: usize,
-) -> [u8; 64]
-    requires { (before + (length first.now + length head.now + length tail.now + length last.now) < 2 ^ 61) × ((before % 64 ≡ 0) × (at < 2 ^ 62)) }
-    ensures { result ≡ block_at (followed before (first.now ++ (head.now ++ (tail.now ++ last.now)))) at }
-{
-    let n = first.len() + head.len() + tail.len() + last.len();
-    let zeros = (119 - n % 64) % 64;
-    let length = length_bytes(8 * (before + n));
-    let mut block = [0u8; 64];
-    lay(first, 0, at, &mut block);
-    lay(head, first.len(), at, &mut block);
-    lay(tail, first.len() + head.len(), at, &mut block);
-    lay(last, first.len() + head.len() + tail.len(), at, &mut block);
-    lay(b"\x80", n, at, &mut block);
-    lay(&length, n + 1 + zeros, at, &mut block);
-    block
 }

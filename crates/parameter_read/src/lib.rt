@@ -6,7 +6,7 @@ ghost use Rattle.wire.specs.Shape.{request};
 ghost use Rattle.authentication.specs.Promises.{Ready, Judges};
 ghost use Rattle.parameter_read.specs.Parameters.{wire_byte, parameters as parameters_of, read_parameters};
 
-use authentication::{Signer, Verdict};
+use authentication::Verdict;
 use sizes::BLOCK_SIZE;
 use unit::{Refusal, Settings, TagUnit};
 use wire::Head;
@@ -31,9 +31,8 @@ fn plain(s: Settings, seconds: u32) -> [u8; BLOCK_SIZE]
     requires { power_legal s.power ≡ true }
     ensures { result ≡ parameters_of s seconds }
 {
-    let power = s.power;
-    let first = [wire_byte(power)];
-    let clock = octets::four(seconds);
+    let first = [wire_byte(s.power)];
+    let clock = seconds.to_be_bytes();
     let last = [CURVE, s.components, s.selectable];
     let mut block = [0; BLOCK_SIZE];
     octets::put(&mut block, 0, &first);
@@ -43,20 +42,16 @@ fn plain(s: Settings, seconds: u32) -> [u8; BLOCK_SIZE]
 }
 
 // 0x00: the parameters, encrypted by the account key used, which is then the most recently used.
-pub fn read_parameters(u: TagUnit, h: Head, additional: &[u8]) -> Verdict
+pub fn read_parameters(u: TagUnit, h: Head, additional: &[u8]) -> Result<Verdict, Refusal>
     requires { Ready u h.size additional.now }
     ensures { Judges u h.id (read_parameters u (request h additional.now)) result }
 {
-    let found = signers::used_key(u, h, additional);
-    let Signer::Holder(place, ready) = found else {
-        return answering::denied(u, Refusal::NotAuthenticated);
+    let signer = signers::used_key(u, h, additional).ok_or(Refusal::NotAuthenticated)?;
+    let key = signers::key_at(u.accounts, signer.place);
+    let block = primitives::encrypt(key, plain(u.settings, u.clock.seconds));
+    let after = TagUnit {
+        accounts: account_keys::used(u.accounts, signer.place),
+        ..u
     };
-    let a = u.accounts;
-    let key = signers::key_at(a, place);
-    let settings = u.settings;
-    let block = primitives::encrypt(key, plain(settings, u.clock.seconds));
-    let used = account_keys::used(a, place);
-    let mut after = u;
-    after.accounts = used;
-    answering::granted(after, ready, &block)
+    Ok(answering::granted(after, signer.key, &block))
 }

@@ -8,9 +8,9 @@ ghost use Rattle.session.specs.Closing.{Awaits, Takes};
 
 use session::{After, Fed, LINE_ROOM, LONGEST_LINE, Progress, Session, closing};
 
-const NEWLINE: u8 = 10;
+const NEWLINE: u8 = b'\n';
 
-// The bytes of a piece, one after another.
+// The bytes of a piece, one after another. Kept: tried as a `for`, where the two ways join before the next turn, and the proof didn't close.
 pub fn take(start: Session, piece: &[u8], out: &mut [u8]) -> Fed
     requires { Bounded start }
     ensures { Feeds start piece.now out.old result.session result.taken result.written out.new }
@@ -36,8 +36,7 @@ pub fn take(start: Session, piece: &[u8], out: &mut [u8]) -> Fed
             taken += 1;
         } else {
             let after = end_line(session, b, out, written);
-            let next = after.session;
-            session = next;
+            session = after.session;
             written = after.written;
             taken += 1;
         }
@@ -54,24 +53,20 @@ fn end_line(s: Session, b: u8, out: &mut [u8], at: usize) -> After
     requires { (Awaits s at out.old) × ((b ≡ newline → ⊥) → longest_line ≤ s.count) }
     ensures { Takes s b at out.old result.session result.written out.new }
 {
-    let run = s.run;
-    let line = s.line;
-    let count = s.count;
     if b == NEWLINE {
-        let closed = closing::close(run, &line[..count], out, at);
-        return opened(closed, line);
+        let closed = closing::close(s.run, &s.line[..s.count], out, at);
+        return opened(closed, s.line);
     }
-    opened(closing::breaks(run, out, at), line)
+    opened(closing::breaks(s.run, out, at), s.line)
 }
 
 // The next line, with nothing of it read yet.
 fn opened(p: Progress, line: [u8; 256]) -> After
     ensures { result ≡ record { session = record { run = p.run; line = line; count = 0 }; written = p.written } }
 {
-    let run = p.run;
     After {
         session: Session {
-            run,
+            run: p.run,
             line,
             count: 0,
         },

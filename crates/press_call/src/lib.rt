@@ -13,22 +13,17 @@ pub fn pressed(u: TagUnit, answer: &mut [u8]) -> Step
     requires { answer_room ≤ length answer.old }
     ensures { Answers (pressed_of u.sound u) result.unit result.reply answer.old answer.new }
 {
-    let sound = u.sound;
-    match sound {
+    match u.sound {
         Sound::Silent => {
-            let mut after = u;
-            after.consent = FULL_CONSENT;
+            let after = TagUnit {
+                consent: FULL_CONSENT,
+                ..u
+            };
             end::accept(after, 0)
         }
-        Sound::Ringing {
-            mask: _,
-            volume: _,
-            left: _,
-        } => {
-            let k = u.identity;
-            let identity = k.bytes;
+        Sound::Ringing { .. } => {
             let nonce = u.ring_nonce;
-            let count = answers::stop_notice(identity, nonce, answers::BY_BUTTON, answer);
+            let count = answers::stop_notice(u.identity.bytes, nonce, answers::BY_BUTTON, answer);
             end::accept(change::silenced(u), count)
         }
     }

@@ -4,6 +4,7 @@ ghost use Rattle.std.specs.Prelude.{◌≡◌, List, ◌++◌, ℕ, ◌≤◌, l
 ghost use Rattle.sizes.specs.Sizes.{longest_message};
 ghost use Rattle.primitives.specs.Standards.{SHA256, HMAC, keyed_by, AES128, InvAES128, AES256};
 
+pub use cipher::Blocks;
 pub use hmac::Keyed;
 
 // SHA-256 of two parts, one after the other.
@@ -52,37 +53,18 @@ pub fn decrypt(key: [u8; 16], block: [u8; 16]) -> [u8; 16]
     cipher::decrypt(key, block)
 }
 
-// Two blocks.
-#[derive(Clone, Copy)]
-pub struct Blocks {
-    pub first: [u8; 16],
-    pub second: [u8; 16],
-}
-
 // AES-128 of two blocks under one key, expanded once.
 pub fn encrypt_pair(key: [u8; 16], first: [u8; 16], second: [u8; 16]) -> Blocks
     ensures { (result.first ≡ AES128 key first) × (result.second ≡ AES128 key second) }
 {
-    let done = cipher::encrypt_pair(key, first, second);
-    let head = done.first;
-    let tail = done.second;
-    Blocks {
-        first: head,
-        second: tail,
-    }
+    cipher::encrypt_pair(key, first, second)
 }
 
 // Its inverse.
 pub fn decrypt_pair(key: [u8; 16], first: [u8; 16], second: [u8; 16]) -> Blocks
     ensures { (result.first ≡ InvAES128 key first) × (result.second ≡ InvAES128 key second) }
 {
-    let done = cipher::decrypt_pair(key, first, second);
-    let head = done.first;
-    let tail = done.second;
-    Blocks {
-        first: head,
-        second: tail,
-    }
+    cipher::decrypt_pair(key, first, second)
 }
 
 // AES-256 of one block.
@@ -96,11 +78,5 @@ pub fn encrypt256(key: [u8; 32], block: [u8; 16]) -> [u8; 16]
 pub fn encrypt256_pair(key: [u8; 32], first: [u8; 16], second: [u8; 16]) -> Blocks
     ensures { (result.first ≡ AES256 key first) × (result.second ≡ AES256 key second) }
 {
-    let done = cipher::encrypt256_pair(key, first, second);
-    let head = done.first;
-    let tail = done.second;
-    Blocks {
-        first: head,
-        second: tail,
-    }
+    cipher::encrypt256_pair(key, first, second)
 }

@@ -9,7 +9,7 @@ ghost use Rattle.printing.specs.Answers.{line_room, malformed_room, title_room, 
 
 use notation::text;
 use time::Passed;
-use unit::{Refusal, Reply, Step, TagUnit, end};
+use unit::{Refusal, Step, TagUnit};
 
 // The unit after an event, and the next place.
 #[derive(Clone, Copy)]
@@ -22,7 +22,7 @@ pub fn refused(out: &mut [u8], at: usize, refusal: Refusal) -> usize
     requires { at + line_room ≤ length out.old }
     ensures { PutsText (refused_text (refusal_number refusal)) at out.old result out.new }
 {
-    let one = [end::refusal_number(refusal)];
+    let one = [u8::from(refusal)];
     text::hex_line(out, at, b"answer=refused\ncode=", &one)
 }
 
@@ -58,15 +58,13 @@ pub fn answered(step: Step, title: &[u8], answer: &[u8], out: &mut [u8], at: usi
     requires { (length title.now ≤ title_room) × ((length answer.now ≡ answer_room) × ((replies_within step.reply answer_room) × (at + line_room ≤ length out.old))) }
     ensures { (result.unit ≡ step.unit) × PutsText (answered_text title.now step.reply answer.now) at out.old result.written out.new }
 {
-    let unit = step.unit;
-    let reply = step.reply;
-    match reply {
-        Reply::Done(n) => Performed {
-            unit,
+    match step.reply {
+        Ok(n) => Performed {
+            unit: step.unit,
             written: success(out, at, title, answer, n),
         },
-        Reply::Refused(refusal) => Performed {
-            unit,
+        Err(refusal) => Performed {
+            unit: step.unit,
             written: refused(out, at, refusal),
         },
     }
@@ -77,15 +75,13 @@ pub fn completed(step: Step, title: &[u8], out: &mut [u8], at: usize) -> Perform
     requires { (length title.now ≤ title_room) × (at + line_room ≤ length out.old) }
     ensures { (result.unit ≡ step.unit) × PutsText (completed_text title.now step.reply) at out.old result.written out.new }
 {
-    let unit = step.unit;
-    let reply = step.reply;
-    match reply {
-        Reply::Done(_) => Performed {
-            unit,
+    match step.reply {
+        Ok(_) => Performed {
+            unit: step.unit,
             written: text::put(out, at, title),
         },
-        Reply::Refused(refusal) => Performed {
-            unit,
+        Err(refusal) => Performed {
+            unit: step.unit,
             written: refused(out, at, refusal),
         },
     }
@@ -125,18 +121,13 @@ pub fn passed(p: Passed, answer: &[u8], out: &mut [u8], at: usize) -> Performed
     requires { (length answer.now ≡ answer_room) × ((replies_within p.reply answer_room) × (at + line_room ≤ length out.old)) }
     ensures { (result.unit ≡ p.unit) × PutsText (passed_text p.ended p.unit.clock.seconds p.reply answer.now) at out.old result.written out.new }
 {
-    let unit = p.unit;
-    let reply = p.reply;
-    match reply {
-        Reply::Done(n) => {
-            let clock = unit.clock;
-            Performed {
-                unit,
-                written: elapsed(out, at, p.ended, clock.seconds, answer, n),
-            }
-        }
-        Reply::Refused(refusal) => Performed {
-            unit,
+    match p.reply {
+        Ok(n) => Performed {
+            unit: p.unit,
+            written: elapsed(out, at, p.ended, p.unit.clock.seconds, answer, n),
+        },
+        Err(refusal) => Performed {
+            unit: p.unit,
             written: refused(out, at, refusal),
         },
     }

@@ -3,12 +3,16 @@
 ghost use Rattle.std.specs.Prelude.{◌≤◌, length, IfOk};
 
 use std::env::FillError;
-use std::io::{Error, ErrorKind};
+use std::io::{Error, ErrorKind, Read};
+use std::ops::ControlFlow;
 use std::rt::{Env, Files};
 use std::{fs, io};
 
 // The longest path.
 pub const MOST_PATH: usize = 4096;
+
+// The most bytes of one read.
+pub const BUFFER: usize = 65536;
 
 // Whether there is an argument of this number. One that has no room in a path is there all the same.
 pub fn has_argument(rt: &impl Env, number: usize) -> bool {
@@ -38,4 +42,33 @@ pub fn opened<R: Files>(rt: &R, path: &[u8]) -> io::Result<R::File> {
 pub fn fail(rt: &impl Eprint, what: &[u8], why: Error) {
     let name = str::from_utf8(what).unwrap_or("a name that is not UTF-8");
     let _ = eprintln!(rt; "{name}: {why}");
+}
+
+// Reads an open file from where it stands to its end, and hands on each piece of it. Breaks where the function that takes the pieces does, and where a
+// read fails, which standard error then says of `name`. An interrupted read is tried again; no machine makes as many reads as are counted here.
+pub fn each_piece<I: Read, F: FnMut(&[u8]) -> ControlFlow<()>>(
+    rt: &impl Eprint,
+    input: &mut I,
+    name: &[u8],
+    mut take: F,
+) -> ControlFlow<()>
+    requires { F.IsAlwaysCallable take }
+{
+    let mut buf = [0u8; BUFFER];
+    for _ in 0..u64::MAX {
+        match input.read(&mut buf) {
+            Ok(0) => return ControlFlow::Continue(()),
+            Ok(n) => {
+                if take(&buf[..n]).is_break() {
+                    return ControlFlow::Break(());
+                }
+            }
+            Err(why) if why.kind() == ErrorKind::Interrupted => {}
+            Err(why) => {
+                fail(rt, name, why);
+                return ControlFlow::Break(());
+            }
+        }
+    }
+    ControlFlow::Break(())
 }

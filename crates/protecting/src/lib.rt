@@ -13,44 +13,39 @@ use wire::{Head, signing};
 fn flag_of(additional: &[u8]) -> u8
     ensures { result ≡ flag_of additional.now }
 {
-    if additional.len() == 0 {
-        return 0;
-    }
-    additional[0]
+    additional.first().copied().unwrap_or(0)
 }
 
 // 0x07: protection on, with the skip flag on or off.
-pub fn protect(u: TagUnit, h: Head, additional: &[u8]) -> Verdict
+pub fn protect(u: TagUnit, h: Head, additional: &[u8]) -> Result<Verdict, Refusal>
     requires { Ready u h.size additional.now }
     ensures { Judges u h.id (protect_by u (request h additional.now)) result }
 {
     let key = identity::derived_key(u, signing::PROTECTION);
-    let n = u.nonces;
-    let nonce = n.newest;
-    if !authentication::tagged(key, nonce, h, additional) {
-        return answering::denied(u, Refusal::NotAuthenticated);
+    if !authentication::tagged(key, u.nonces.newest, h, additional) {
+        return Err(Refusal::NotAuthenticated);
     }
     let flag = flag_of(additional);
     if 1 < flag {
-        return answering::denied(u, Refusal::InvalidValue);
+        return Err(Refusal::InvalidValue);
     }
     let on = Protection::On { skip: flag == 1 };
-    answering::granted(change::with_protection(u, on), key, b"")
+    let after = change::with_protection(u, on);
+    Ok(answering::granted(after, key, b""))
 }
 
 // 0x08: protection off.
-pub fn unprotect(u: TagUnit, h: Head, additional: &[u8]) -> Verdict
+pub fn unprotect(u: TagUnit, h: Head, additional: &[u8]) -> Result<Verdict, Refusal>
     requires { Ready u h.size additional.now }
     ensures { Judges u h.id (unprotect_by u (request h additional.now)) result }
 {
     let key = identity::derived_key(u, signing::PROTECTION);
-    let n = u.nonces;
-    let nonce = n.newest;
-    if !authentication::tagged(key, nonce, h, additional) {
-        return answering::denied(u, Refusal::NotAuthenticated);
+    if !authentication::tagged(key, u.nonces.newest, h, additional) {
+        return Err(Refusal::NotAuthenticated);
     }
     if !identity::proves(u, additional) {
-        return answering::denied(u, Refusal::NotAuthenticated);
+        return Err(Refusal::NotAuthenticated);
     }
-    answering::granted(change::with_protection(u, Protection::Off), key, b"")
+    let after = change::with_protection(u, Protection::Off);
+    Ok(answering::granted(after, key, b""))
 }

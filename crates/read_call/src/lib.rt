@@ -15,14 +15,14 @@ pub fn issued(u: TagUnit, lent: &[u8], answer: &mut [u8]) -> Step
     requires { (nonces_legal u.nonces ≡ true) × (answer_room ≤ length answer.old) }
     ensures { Answers (issuing lent.now u) result.unit result.reply answer.old answer.new }
 {
-    let held = u.nonces;
-    if nonces::fits(held, lent) {
-        let mut after = u;
-        after.nonces = nonces::issued(held, octets::eight(lent));
-        let first = [signing::VERSION];
-        octets::put(answer, 0, &first);
-        octets::put(answer, 1, lent);
-        return end::accept(after, 1 + NONCE_SIZE);
+    if !nonces::fits(u.nonces, lent) {
+        return end::refuse(u, Refusal::WrongNonce);
     }
-    end::refuse(u, Refusal::WrongNonce)
+    let after = TagUnit {
+        nonces: nonces::issued(u.nonces, octets::array(lent)),
+        ..u
+    };
+    octets::put(answer, 0, &[signing::VERSION]);
+    octets::put(answer, 1, lent);
+    end::accept(after, 1 + NONCE_SIZE)
 }

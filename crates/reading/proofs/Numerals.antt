@@ -3,19 +3,22 @@ use Prim.Native.Nat.{ℕ, zero, suc, ◌+◌, ◌-◌, ◌*◌, ◌^◌, ◌≤�
 use mathlib.Core.Path.{◌≡◌, refl, sym, ap, subst, ◌∙◌}
 use mathlib.Core.Bool.{Bool, true, false, cond, not, ◌&&◌, ◌||◌}
 use mathlib.Core.List.{List, [], ◌∷◌}
-use mathlib.Core.Option.{Option, none, some}
+use Rattle.std.specs.Prelude.{Option, None, Some, Result, Ok, Err}
+use Rattle.std.specs.Result.{OkIff, result_ok}
 use native.Mathlib.Nat.{zero-add}
 use native.Mathlib.Numerals.{add-one}
 use native.Mathlib.Omega.{arith}
-use lib.Dec.{leb, ltb, eqb}
+use native.Mathlib.Decide.{dec_lt}
+use lib.Dec.{ltb, eqb}
 use lib.IntN.{ℤ, pos, negsuc, ◌-ℤ◌}
-use lib.ListN.{length, drop, get_or, drop_of_length-le}
+use lib.ListN.{length, take, drop, get_or, drop_of_length-le}
 use lib.Seq.{drop-cons}
+use lib.Pointwise.{pointwise}
 use mir.Syntax.{w32}
 use mir.Val.{to_z, of_z, SFits}
 use mir.Facts.{to_z_pos, to_z-of_z}
-use borrow.Author.Tests.{lt-ltb, le-ltb, le-leb, lt-leb, eq-eqb, ne_eqb, ltb-false}
-use Rattle.laws.proofs.Flags.{and_fails_left, and_fails_right, both}
+use borrow.Author.Tests.{lt-ltb, le-ltb, le-leb, lt-leb, ltb-false}
+use Rattle.laws.proofs.Flags.{and_fails_right, both}
 use Rattle.reading.specs.Reading.{all_digits, value_from, is_digit, is_numeral, unsigned, signed, negative, positive, minus}
 use Rattle.reading.specs.Values.{in_digits}
 
@@ -34,22 +37,15 @@ unfolding value_from
 value_grows v [] = omega arith
 value_grows v (c ∷ cs) = let rest : v * 10 + (c - 48) ≤ value_from (v * 10 + (c - 48)) cs = value_grows (v * 10 + (c - 48)) cs in omega arith
 
-digit_yes : (c : ℕ) → 48 ≤ c → c ≤ 57 → is_digit c ≡ true
-digit_yes c low high = both (le-leb 48 c low) (le-leb c 57 high)
-
 -- A loop from the front: a digit leaves the rest to decide, and adds to the value
 module _ (cs : List ℕ) (i : ℕ) (h : i < length cs) where
-  pub digits_next : 48 ≤ get_or cs i 0 → get_or cs i 0 ≤ 57 → all_digits (drop i cs) ≡ all_digits (drop (i + 1) cs)
+  pub digits_next : is_digit (get_or cs i 0) ≡ true → all_digits (drop i cs) ≡ all_digits (drop (i + 1) cs)
   unfolding all_digits
-  digits_next low high = rw (add-one i, drop-cons cs i 0 h, digit_yes (get_or cs i 0) low high)
+  digits_next d = rw (add-one i, drop-cons cs i 0 h, d)
 
-  pub digits_low : get_or cs i 0 < 48 → all_digits (drop i cs) ≡ false
+  pub digits_wrong : is_digit (get_or cs i 0) ≡ false → all_digits (drop i cs) ≡ false
   unfolding all_digits
-  digits_low low = rw (drop-cons cs i 0 h, lt-leb 48 (get_or cs i 0) low)
-
-  pub digits_high : 57 < get_or cs i 0 → all_digits (drop i cs) ≡ false
-  unfolding all_digits
-  digits_high high = rw (drop-cons cs i 0 h) (and_fails_left _ (and_fails_right (leb 48 (get_or cs i 0)) (lt-leb (get_or cs i 0) 57 high)))
+  digits_wrong d = rw (drop-cons cs i 0 h, d)
 
   pub value_next : (v : ℕ) → value_from v (drop i cs) ≡ value_from (v * 10 + (get_or cs i 0 - 48)) (drop (i + 1) cs)
   unfolding value_from
@@ -63,15 +59,15 @@ pub value_end : (cs : List ℕ) (i v : ℕ) → length cs ≤ i → value_from v
 unfolding value_from
 value_end cs i v h = rw (drop_of_length-le cs h)
 
-pub no_digits : (cs : List ℕ) → all_digits cs ≡ false → none ≡ in_digits cs
+pub no_digits : (cs : List ℕ) → all_digits cs ≡ false → None ≡ in_digits cs
 unfolding in_digits
 no_digits cs h = rw h
 
-pub too_large : (cs : List ℕ) → 2 ^ 32 ≤ value_from 0 cs → none ≡ in_digits cs
+pub too_large : (cs : List ℕ) → 2 ^ 32 ≤ value_from 0 cs → None ≡ in_digits cs
 unfolding in_digits
 too_large cs h = rw (le-ltb (value_from 0 cs) (2 ^ 32) h, and_fails_right (all_digits cs) refl)
 
-pub in_digits_lem : (cs : List ℕ) (v : ℕ) → all_digits cs ≡ true → value_from 0 cs ≡ v → v < 2 ^ 32 → some v ≡ in_digits cs
+pub in_digits_lem : (cs : List ℕ) (v : ℕ) → all_digits cs ≡ true → value_from 0 cs ≡ v → v < 2 ^ 32 → Some v ≡ in_digits cs
 unfolding in_digits
 in_digits_lem cs v h e small = rw (h, e, lt-ltb v (2 ^ 32) small)
 
@@ -79,7 +75,7 @@ in_digits_lem cs v h e small = rw (h, e, lt-ltb v (2 ^ 32) small)
 abbrev pub shaped : List ℕ → Bool
 shaped cs = eqb (length cs) 1 || (ltb 1 (length cs) && not (eqb (get_or cs 0 0) 48))
 
-pub no_shape : (cs : List ℕ) → shaped cs ≡ false → none ≡ unsigned cs
+pub no_shape : (cs : List ℕ) → shaped cs ≡ false → None ≡ unsigned cs
 unfolding unsigned is_numeral
 no_shape cs h = rw (h, and_fails_right (all_digits cs) refl)
 
@@ -88,24 +84,30 @@ unfolding unsigned is_numeral in_digits
 in_shape cs h = rw h (rw (and_true (all_digits cs)))
 
 abbrev pub and_then : {A : Type 0} → Option ℕ → (ℕ → Option A) → Option A
-and_then none f = none
-and_then (some n) f = f n
+and_then None f = None
+and_then (Some n) f = f n
 
 -- a number with a sign is read as one without, and then within its bounds
-judged : {A : Type 0} (f : ℕ → Option A) (cs : List ℕ) → ((n : ℕ) → 2 ^ 32 ≤ n → f n ≡ none)
-    → cond (is_numeral cs) (f (value_from 0 cs)) none ≡ and_then (unsigned cs) f
+judged : {A : Type 0} (f : ℕ → Option A) (cs : List ℕ) → ((n : ℕ) → 2 ^ 32 ≤ n → f n ≡ None)
+    → cond (is_numeral cs) (f (value_from 0 cs)) None ≡ and_then (unsigned cs) f
 unfolding unsigned
 judged f cs large = go (is_numeral cs) (ltb (value_from 0 cs) (2 ^ 32)) refl
   where
     go : (numeral small : Bool) → ltb (value_from 0 cs) (2 ^ 32) ≡ small
-        → cond numeral (f (value_from 0 cs)) none ≡ and_then (cond (numeral && small) (some (value_from 0 cs)) none) f
+        → cond numeral (f (value_from 0 cs)) None ≡ and_then (cond (numeral && small) (Some (value_from 0 cs)) None) f
     go false small e = refl
     go true true e = refl
     go true false e = large (value_from 0 cs) (ltb-false (value_from 0 cs) (2 ^ 32) e)
 
-pub positive_is : (n : ℕ) → n < 2 ^ 31 → some (to_z w32 n) ≡ positive n
+-- a number below 2^31 stands for itself
+pub above_is : {E : Type 0} (n : ℕ) (r : Result ℤ E) → OkIff r (SFits w32 (pos n)) (pos n) → result_ok r ≡ positive n
 unfolding positive
-positive_is n h = ap some (to_z_pos w32 h) ∙ sym (ap (λ (b : Bool). cond b (some (pos n)) none) (lt-ltb n (2 ^ 31) h))
+above_is n (Ok x) h = ap Some h.1 ∙ sym (ap (λ (b : Bool). cond b (Some (pos n)) None) (lt-ltb n (2 ^ 31) (omega (arith, h.0.sfits))))
+above_is n (Err e) h = go (dec_lt n (2 ^ 31))
+  where
+    go : Dec (n < 2 ^ 31) → None ≡ cond (ltb n (2 ^ 31)) (Some (pos n)) None
+    go (yes p) = absurd (h (record { sfits = omega arith }))
+    go (no q) = rw (le-ltb n (2 ^ 31) (omega arith)) refl
 
 -- a number from 1 to 2^31, taken from zero
 module _ (n : ℕ) (some-n : 0 < n) (h : n ≤ 2 ^ 31) where
@@ -115,31 +117,27 @@ module _ (n : ℕ) (some-n : 0 < n) (h : n ≤ 2 ^ 31) where
   pub negative_fits : SFits w32 (negsuc 0 -ℤ to_z w32 (n - 1))
   negative_fits = subst (λ (z : ℤ). SFits w32 z) (sym taken_from_zero) (record { sfits = omega arith })
 
-  pub negative_is : some (to_z w32 (of_z w32 (negsuc 0 -ℤ to_z w32 (n - 1)))) ≡ negative n
+  pub negative_is : Some (to_z w32 (of_z w32 (negsuc 0 -ℤ to_z w32 (n - 1)))) ≡ negative n
   unfolding negative
   negative_is =
-      ap some (to_z-of_z negative_fits ∙ taken_from_zero)
-      ∙ sym (ap (λ (b : Bool). cond b (some (negsuc (n - 1))) none) (both (lt-ltb 0 n some-n) (le-leb n (2 ^ 31) h)))
+      ap Some (to_z-of_z negative_fits ∙ taken_from_zero)
+      ∙ sym (ap (λ (b : Bool). cond b (Some (negsuc (n - 1))) None) (both (lt-ltb 0 n some-n) (le-leb n (2 ^ 31) h)))
 
-pub not_negative : (n : ℕ) → 2 ^ 31 < n → negative n ≡ none
+pub not_negative : (n : ℕ) → 2 ^ 31 < n → negative n ≡ None
 unfolding negative
 not_negative n h = rw (lt-leb n (2 ^ 31) h, and_fails_right (ltb 0 n) refl)
 
-pub not_positive : (n : ℕ) → 2 ^ 31 ≤ n → positive n ≡ none
+pub not_positive : (n : ℕ) → 2 ^ 31 ≤ n → positive n ≡ None
 unfolding positive
 not_positive n h = rw (le-ltb n (2 ^ 31) h)
 
-pub signed_none : (cs : List ℕ) → length cs ≡ 0 → none ≡ signed cs
-unfolding signed
-signed_none [] h = refl
-signed_none (c ∷ cs) h = absurd (omega arith)
+nothing_read : unsigned [] ≡ None
+unfolding unsigned is_numeral all_digits
+nothing_read = refl
 
-pub signed_below : (cs : List ℕ) → 0 < length cs → get_or cs 0 0 ≡ minus → and_then (unsigned (drop 1 cs)) negative ≡ signed cs
+-- with a minus before them the digits are taken from zero, without one they stand for themselves
+pub signed_by : (cs : List ℕ) → signed cs ≡ cond (pointwise eqb (take 1 cs) (minus ∷ [])) (and_then (unsigned (drop 1 cs)) negative) (and_then (unsigned cs) positive)
 unfolding signed
-signed_below [] h e = absurd (omega arith)
-signed_below (c ∷ cs) h e = rw (eq-eqb c minus e) (sym (judged negative cs (λ n k. not_negative n (omega arith))))
-
-pub signed_above : (cs : List ℕ) → 0 < length cs → (get_or cs 0 0 ≡ minus → ⊥) → and_then (unsigned cs) positive ≡ signed cs
-unfolding signed
-signed_above [] h e = absurd (omega arith)
-signed_above (c ∷ cs) h e = rw (ne_eqb c minus e) (sym (judged positive (c ∷ cs) (λ n k. not_positive n (omega arith))))
+signed_by [] = rw nothing_read
+signed_by (c ∷ cs) =
+    rw (judged negative cs (λ n k. not_negative n (omega arith)), judged positive (c ∷ cs) (λ n k. not_positive n (omega arith)), and_true (eqb c minus)) refl

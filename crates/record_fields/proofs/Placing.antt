@@ -3,11 +3,10 @@ use Prim.Native.Nat.{ℕ, ◌+◌, ◌-◌, ◌^◌, ◌≤◌, ◌<◌}
 use mathlib.Core.Path.{◌≡◌, refl, sym, ap, ◌∙◌}
 use mathlib.Core.List.{List, []}
 use native.Mathlib.Omega.{arith}
-use lib.ListN.{length, take, drop, replicate, length-drop, length-replicate}
+use lib.ListN.{length, take, drop, length-drop}
 use lib.Seq.{length-take-le}
 use Rattle.laws.specs.Bytes.{number}
-use Rattle.laws.proofs.Copied.{copied_over}
-use Rattle.octets.specs.Put.{pasted, Puts, Reads}
+use Rattle.octets.specs.Put.{Puts, Reads}
 use Rattle.octets.proofs.Pasting.{pasted_none}
 use Rattle.octets.proofs.Numbers.{small_number}
 use Rattle.record_fields.specs.Part.{run}
@@ -32,8 +31,3 @@ module _ (b : List ℕ) (at n : ℕ) where
 
   pub number_small : {x : ℕ} → at + n ≤ length b → Reads (take (at + n - at) (drop at b)) x → x < 256 ^ n
   number_small h r = small_number b at n h (rw slice_run at r)
-
-  -- its bytes, copied over zeros
-  pub copied_run : {out : List ℕ} → at + n ≤ length b → out ≡ pasted (replicate n 0) 0 (take (at + n - at) (drop at b)) → out ≡ run b at n
-  copied_run {out} h e =
-      copied_over (replicate n 0) (run b at n) out (length_run h ∙ sym (length-replicate n 0)) (rw slice_run at e)

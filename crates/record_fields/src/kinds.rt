@@ -41,6 +41,7 @@ pub fn flag(from: &[u8], at: usize) -> bool
     from[at] == 1
 }
 
+// Kept: a pair for each of the three integer types, since one generic pair would need a trait of them, which is no plainer.
 pub fn put_tenths(to: &mut [u8], at: usize, n: u16)
     requires { at + tenths_size ≤ length to.old }
     ensures { Puts at tenths_size ((number_of tenths_size).bytes n) to.old to.new }
@@ -86,7 +87,7 @@ pub fn count(from: &[u8], at: usize) -> usize
     n as usize
 }
 
-// Power as 32 bits, two's complement.
+// Power as 32 bits, two's complement. Kept: the record's definition says it by cases, as here; std's cast says it by another word.
 fn power_word(power: i32) -> u64
     ensures { result ≡ power_word power }
 {

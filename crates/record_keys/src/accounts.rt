@@ -22,19 +22,18 @@ pub fn put(to: &mut [u8], at: usize, a: Accounts)
     requires { at + accounts_size ≤ length to.old }
     ensures { Puts at accounts_size (bytes_of accounts_fields a) to.old to.new }
 {
-    let owner = a.owner;
-    let keys = a.keys;
     kinds::put_count(to, at + COUNT_AT, a.count);
-    owner::put(to, at + OWNER_AT, owner);
-    plain::put_keys(to, at + KEYS_AT, keys);
+    owner::put(to, at + OWNER_AT, a.owner);
+    plain::put_bytes(to, at + KEYS_AT, a.keys);
 }
 
 pub fn read(from: &[u8], at: usize) -> Accounts
     requires { at + accounts_size ≤ length from.now }
     ensures { result ≡ value_of accounts_fields from.now at }
 {
-    let count = kinds::count(from, at + COUNT_AT);
-    let owner = owner::read(from, at + OWNER_AT);
-    let keys = plain::keys(from, at + KEYS_AT);
-    Accounts { count, owner, keys }
+    Accounts {
+        count: kinds::count(from, at + COUNT_AT),
+        owner: owner::read(from, at + OWNER_AT),
+        keys: plain::bytes(from, at + KEYS_AT),
+    }
 }

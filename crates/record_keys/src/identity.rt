@@ -19,16 +19,16 @@ pub fn put(to: &mut [u8], at: usize, k: Identity)
     requires { at + identity_size ≤ length to.old }
     ensures { Puts at identity_size (bytes_of identity_fields k) to.old to.new }
 {
-    let bytes = k.bytes;
     kinds::put_flag(to, at + HELD_AT, k.held);
-    plain::put_identity_key(to, at + BYTES_AT, bytes);
+    plain::put_bytes(to, at + BYTES_AT, k.bytes);
 }
 
 pub fn read(from: &[u8], at: usize) -> Identity
     requires { at + identity_size ≤ length from.now }
     ensures { result ≡ value_of identity_fields from.now at }
 {
-    let held = kinds::flag(from, at + HELD_AT);
-    let bytes = plain::identity_key(from, at + BYTES_AT);
-    Identity { held, bytes }
+    Identity {
+        held: kinds::flag(from, at + HELD_AT),
+        bytes: plain::bytes(from, at + BYTES_AT),
+    }
 }

@@ -23,26 +23,20 @@ pub fn put(to: &mut [u8], at: usize, n: Nonces)
     requires { at + nonces_size ≤ length to.old }
     ensures { Puts at nonces_size (bytes_of nonces_fields n) to.old to.new }
 {
-    let newest = n.newest;
-    let earlier = n.earlier;
     kinds::put_byte(to, at + COUNT_AT, n.count);
     kinds::put_flag(to, at + LIVE_AT, n.live);
-    plain::put_nonce(to, at + NEWEST_AT, newest);
-    plain::put_earlier_nonces(to, at + EARLIER_AT, earlier);
+    plain::put_bytes(to, at + NEWEST_AT, n.newest);
+    plain::put_bytes(to, at + EARLIER_AT, n.earlier);
 }
 
 pub fn read(from: &[u8], at: usize) -> Nonces
     requires { at + nonces_size ≤ length from.now }
     ensures { result ≡ value_of nonces_fields from.now at }
 {
-    let count = from[at + COUNT_AT];
-    let live = kinds::flag(from, at + LIVE_AT);
-    let newest = plain::nonce(from, at + NEWEST_AT);
-    let earlier = plain::earlier_nonces(from, at + EARLIER_AT);
     Nonces {
-        count,
-        live,
-        newest,
-        earlier,
+        count: from[at + COUNT_AT],
+        live: kinds::flag(from, at + LIVE_AT),
+        newest: plain::bytes(from, at + NEWEST_AT),
+        earlier: plain::bytes(from, at + EARLIER_AT),
     }
 }

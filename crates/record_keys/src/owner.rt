@@ -7,7 +7,6 @@ ghost use Rattle.record_parts.specs.Groups.{owner_fields, owner_size};
 
 use record_fields::kinds;
 use record_fields::kinds::{BYTE_SIZE, COUNT_SIZE};
-use unit::Owner;
 
 const KIND_AT: usize = 0;
 
@@ -23,24 +22,23 @@ fn put_fields(to: &mut [u8], at: usize, kind: u8, place: usize)
     kinds::put_count(to, at + PLACE_AT, place);
 }
 
-pub fn put(to: &mut [u8], at: usize, o: Owner)
+pub fn put(to: &mut [u8], at: usize, o: Option<usize>)
     requires { at + owner_size ≤ length to.old }
     ensures { Puts at owner_size (bytes_of owner_fields o) to.old to.new }
 {
     match o {
-        Owner::Nobody => put_fields(to, at, 0, 0),
-        Owner::Place(p) => put_fields(to, at, 1, p),
+        None => put_fields(to, at, 0, 0),
+        Some(p) => put_fields(to, at, 1, p),
     }
 }
 
-pub fn read(from: &[u8], at: usize) -> Owner
+pub fn read(from: &[u8], at: usize) -> Option<usize>
     requires { at + owner_size ≤ length from.now }
     ensures { result ≡ value_of owner_fields from.now at }
 {
-    let place = kinds::count(from, at + PLACE_AT);
     if from[at + KIND_AT] == 1 {
-        Owner::Place(place)
+        Some(kinds::count(from, at + PLACE_AT))
     } else {
-        Owner::Nobody
+        None
     }
 }

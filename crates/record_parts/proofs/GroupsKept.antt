@@ -1,8 +1,9 @@
 -- Each group is a lawful part: every field is, and a value made of its own fields is itself.
 use mathlib.Core.Path.{◌≡◌, refl}
 use mathlib.Core.Bool.{true, false}
+use Rattle.std.specs.Prelude.{Some, None}
 use Rattle.sizes.specs.Sizes.{nonce_size, earlier_room, keys_room, identity_key_size}
-use Rattle.unit.specs.declared.Owner.{Owner}
+use Rattle.unit.specs.Types.{Owner}
 use Rattle.unit.specs.declared.Sound.{Sound}
 use Rattle.unit.specs.declared.Protection.{Protection}
 use Rattle.record_fields.specs.Part.{again, whole, Lawful}
@@ -26,8 +27,8 @@ nonces_lawful =
 
 owner_again : (o : Owner) → again owner_fields o ≡ o
 unfolding owner_fields again
-owner_again Owner.Nobody = refl
-owner_again (Owner.Place p) = refl
+owner_again None = refl
+owner_again (Some p) = refl
 
 pub owner_lawful : Lawful (whole owner_fields)
 unfolding owner_fields

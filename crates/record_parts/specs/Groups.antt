@@ -1,12 +1,12 @@
 -- Each group of the unit's fields as a part of the record: which fields it has, in order. A variant is a byte, and what it holds after it; a
 -- variant that holds nothing has zeros there.
-use Rattle.std.specs.Prelude.{ℕ, ◌+◌, Bool, cond, List, eqb, ℤ}
+use Rattle.std.specs.Prelude.{ℕ, ◌+◌, Bool, cond, List, eqb, ℤ, Some, None}
 use Rattle.sizes.specs.Sizes.{nonce_size, earlier_room, keys_room, identity_key_size}
 use Rattle.unit.specs.declared.Settings.{Settings}
 use Rattle.unit.specs.declared.Clock.{Clock}
 use Rattle.nonces.specs.declared.Nonces.{Nonces}
 use Rattle.unit.specs.declared.Accounts.{Accounts}
-use Rattle.unit.specs.declared.Owner.{Owner}
+use Rattle.unit.specs.Types.{Owner}
 use Rattle.unit.specs.declared.Identity.{Identity}
 use Rattle.unit.specs.declared.Sound.{Sound}
 use Rattle.unit.specs.declared.Protection.{Protection}
@@ -57,15 +57,15 @@ abbrev pub owner_size : ℕ
 owner_size = byte_size + count_size
 
 abbrev pub owner_kind : Owner → ℕ
-owner_kind Owner.Nobody = 0
-owner_kind (Owner.Place p) = 1
+owner_kind None = 0
+owner_kind (Some p) = 1
 
 abbrev pub owner_place : Owner → ℕ
-owner_place Owner.Nobody = 0
-owner_place (Owner.Place p) = p
+owner_place None = 0
+owner_place (Some p) = p
 
 abbrev pub owner_of : ℕ → ℕ → Owner
-owner_of kind p = cond (eqb kind 1) (Owner.Place p) Owner.Nobody
+owner_of kind p = cond (eqb kind 1) (Some p) None
 
 unfoldable pub owner_fields : Fields Owner owner_size Owner
 owner_fields =

@@ -26,7 +26,8 @@ pub fn read(from: &[u8], at: usize) -> Clock
     requires { at + clock_size ≤ length from.now }
     ensures { result ≡ value_of clock_fields from.now at }
 {
-    let seconds = kinds::seconds(from, at + SECONDS_AT);
-    let tenth = from[at + TENTH_AT];
-    Clock { seconds, tenth }
+    Clock {
+        seconds: kinds::seconds(from, at + SECONDS_AT),
+        tenth: from[at + TENTH_AT],
+    }
 }

@@ -29,12 +29,9 @@ pub fn read(from: &[u8], at: usize) -> Settings
     requires { at + settings_size ≤ length from.now }
     ensures { result ≡ value_of settings_fields from.now at }
 {
-    let power = kinds::power(from, at + POWER_AT);
-    let components = from[at + COMPONENTS_AT];
-    let selectable = from[at + SELECTABLE_AT];
     Settings {
-        power,
-        components,
-        selectable,
+        power: kinds::power(from, at + POWER_AT),
+        components: from[at + COMPONENTS_AT],
+        selectable: from[at + SELECTABLE_AT],
     }
 }

@@ -43,12 +43,11 @@ pub fn read(from: &[u8], at: usize) -> Sound
     requires { at + sound_size ≤ length from.now }
     ensures { result ≡ value_of sound_fields from.now at }
 {
-    let left = kinds::tenths(from, at + LEFT_AT);
     if from[at + KIND_AT] == 1 {
         Sound::Ringing {
             mask: from[at + MASK_AT],
             volume: from[at + VOLUME_AT],
-            left,
+            left: kinds::tenths(from, at + LEFT_AT),
         }
     } else {
         Sound::Silent

@@ -2,11 +2,8 @@
 use crate::table::{MOST, byte, bytes, number, value};
 use std::io;
 
-// No call of this name: a number that no call gives.
-const UNKNOWN: u64 = 0xffff;
-
-// Runs the call of a row on its record, and gives the number that the call gives.
-pub fn run(rt: &impl Print, row: &[u8]) -> io::Result<u64> {
+// Runs the call of a row on its record, and gives the number that the call gives. None where there is no call of its name.
+pub fn run(rt: &impl Print, row: &[u8]) -> io::Result<Option<u64>> {
     let mut record = [0u8; MOST];
     let count = bytes(rt, row, b"record=", &mut record)?;
     let mut answer = [0u8; MOST];
@@ -21,52 +18,28 @@ pub fn run(rt: &impl Print, row: &[u8]) -> io::Result<u64> {
     )
 }
 
-// A call that gives answer bytes; any other has no use for them.
+// Some calls have no use for the answer bytes.
 fn named(
     rt: &impl Print,
     name: &[u8],
     row: &[u8],
     record: &mut [u8],
     answer: &mut [u8],
-) -> io::Result<u64> {
-    if octets::same(name, b"read") {
-        return read(rt, row, record, answer);
-    }
-    if octets::same(name, b"write") {
-        return write(rt, row, record, answer);
-    }
-    if octets::same(name, b"button") {
-        return Ok(firmware::tag_button(record, answer));
-    }
-    if octets::same(name, b"elapsed") {
-        let tenths = number(rt, row, b"tenths=")?;
-        return Ok(firmware::tag_elapsed(record, tenths, answer));
-    }
-    if octets::same(name, b"frame") {
-        return Ok(firmware::tag_frame(record, answer));
-    }
-    unanswered(rt, name, row, record)
-}
-
-fn unanswered(rt: &impl Print, name: &[u8], row: &[u8], record: &mut [u8]) -> io::Result<u64> {
-    if octets::same(name, b"pairing") {
-        let on = number(rt, row, b"on=")?;
-        return Ok(firmware::tag_pairing(record, on));
-    }
-    if octets::same(name, b"battery") {
-        let level = number(rt, row, b"level=")?;
-        return Ok(firmware::tag_battery(record, level));
-    }
-    if octets::same(name, b"key") {
-        return account_key(rt, row, record);
-    }
-    if octets::same(name, b"disconnect") {
-        return Ok(firmware::tag_disconnect(record));
-    }
-    if octets::same(name, b"sleep") {
-        return Ok(firmware::tag_sleep(record));
-    }
-    Ok(UNKNOWN)
+) -> io::Result<Option<u64>> {
+    let code = match name {
+        b"read" => read(rt, row, record, answer)?,
+        b"write" => write(rt, row, record, answer)?,
+        b"button" => firmware::tag_button(record, answer),
+        b"elapsed" => firmware::tag_elapsed(record, number(rt, row, b"tenths=")?, answer),
+        b"frame" => firmware::tag_frame(record, answer),
+        b"pairing" => firmware::tag_pairing(record, number(rt, row, b"on=")?),
+        b"battery" => firmware::tag_battery(record, number(rt, row, b"level=")?),
+        b"key" => account_key(rt, row, record)?,
+        b"disconnect" => firmware::tag_disconnect(record),
+        b"sleep" => firmware::tag_sleep(record),
+        _ => return Ok(None),
+    };
+    Ok(Some(code))
 }
 
 fn read(rt: &impl Print, row: &[u8], record: &mut [u8], answer: &mut [u8]) -> io::Result<u64> {
@@ -79,7 +52,7 @@ fn write(rt: &impl Print, row: &[u8], record: &mut [u8], answer: &mut [u8]) -> i
     let mut request = [0u8; MOST];
     let count = bytes(rt, row, b"data=", &mut request)?;
     let reach = byte(rt, row, b"reach=")?;
-    Ok(firmware::tag_write(record, &request[..count], reach, answer))
+    Ok(firmware::tag_write(record, &request[..count], u32::from(reach), answer))
 }
 
 fn account_key(rt: &impl Print, row: &[u8], record: &mut [u8]) -> io::Result<u64> {

@@ -2,7 +2,7 @@
 // Runs the table that its argument names, a call over a record of bytes to a row, and prints a line for each: the row's name, its call, its
 // room, and `ok` or the refusal in two hexadecimal digits. compare/reference makes the table, data/records.txt, and the lines in stdout; none of
 // them comes from this program.
-ghost use Rattle.std.specs.Prelude.{◌≤◌, length, IfOk};
+ghost use Rattle.std.specs.Prelude.{◌≤◌, length, IfOk, IfSome};
 
 mod calls;
 mod table;
@@ -14,6 +14,9 @@ use std::os::unix::fs::FileExt;
 
 // The longest table.
 const MOST_BYTES: usize = 16777216;
+
+// What a row prints whose call has no known name.
+const UNKNOWN: &[u8] = b"feff\n";
 
 // What a call gives is the answer bytes written, or 256 and the refusal; 65,536 times the tenth at which a ring ended may be added.
 const REFUSAL_BASE: u64 = 256;
@@ -27,23 +30,22 @@ fn main(rt: HostRuntime) -> io::Result<()> {
     rows(&rt, &table)
 }
 
-// Runs each row of the table.
+// Runs each row of the table. Kept: the loop goes from row to row, by the bytes of each.
 fn rows(rt: &impl Print, table: &File) -> io::Result<()> {
     let mut at = 0;
     while at < MOST_BYTES {
-        let size = row_at(rt, table, at)?;
-        if size == 0 {
+        let Some(size) = row_at(rt, table, at)? else {
             break;
-        }
+        };
         at += size + 1;
     }
     Ok(())
 }
 
-// Runs the row that begins at a place of the table, and gives its bytes without the last newline; 0 where there is none.
-fn row_at(rt: &impl Print, table: &File, at: usize) -> io::Result<usize>
+// Runs the row that begins at a place of the table, and gives its bytes without the last newline. None where there is none.
+fn row_at(rt: &impl Print, table: &File, at: usize) -> io::Result<Option<usize>>
     requires { at ≤ 16777216 }
-    ensures { IfOk result (λ size. size ≤ 4096) }
+    ensures { IfOk result (λ row. IfSome row (λ size. size ≤ 4096)) }
 {
     let mut text = [0u8; 4096];
     let count = table.read_at(&mut text, at as u64)?;
@@ -51,23 +53,24 @@ fn row_at(rt: &impl Print, table: &File, at: usize) -> io::Result<usize>
 }
 
 // The same of the row that a text begins with. A row ends with its line of the room.
-fn first_row(rt: &impl Print, text: &[u8]) -> io::Result<usize>
-    ensures { IfOk result (λ size. size ≤ length text.now) }
+fn first_row(rt: &impl Print, text: &[u8]) -> io::Result<Option<usize>>
+    ensures { IfOk result (λ row. IfSome row (λ size. size ≤ length text.now)) }
 {
-    let last = table::find(text, b"room=");
-    let size = last.end;
-    if 0 < size {
-        run(rt, &text[..size])?;
-    }
-    Ok(size)
+    let Some(last) = table::find(text, b"room=") else {
+        return Ok(None);
+    };
+    run(rt, &text[..last.end])?;
+    Ok(Some(last.end))
 }
 
 fn run(rt: &impl Print, row: &[u8]) -> io::Result<()> {
     field(rt, row, b"name=")?;
     field(rt, row, b"call=")?;
     field(rt, row, b"room=")?;
-    let code = calls::run(rt, row)?;
-    ending(rt, code % ENDED_BASE)
+    match calls::run(rt, row)? {
+        Some(code) => ending(rt, code % ENDED_BASE),
+        None => rt.write_all(UNKNOWN),
+    }
 }
 
 // Prints a value of the row, and a space.

@@ -1,9 +1,9 @@
 // The lines of a row, `key=value` each, written as in a session file. A value that cannot be read prints `malformed`, so that the row's line is not the
 // expected one.
-ghost use Rattle.std.specs.Prelude.{◌≤◌, length, IfOk};
+ghost use Rattle.std.specs.Prelude.{◌≤◌, length, IfOk, IfSome};
 
-use hex_reading::{Octets, one_byte, unhex};
-use reading::{Numeral, unsigned};
+use hex_reading::{one_byte, unhex};
+use reading::unsigned;
 use std::io;
 
 // The most bytes of a record or an argument.
@@ -14,11 +14,10 @@ pub fn end_of(text: &[u8], at: usize) -> usize
     requires { at ≤ length text.now }
     ensures { (at ≤ result) × (result ≤ length text.now) }
 {
-    let mut end = at;
-    while end < text.len() && text[end] != b'\n' {
-        end += 1;
+    match text[at..].iter().position(|b| *b == b'\n') {
+        Some(size) => at + size,
+        None => text.len(),
     }
-    end
 }
 
 // Where a value stands.
@@ -28,30 +27,30 @@ pub struct Place {
     pub end: usize,
 }
 
-// Where the value of the first line with a key stands; at 0 and empty where no line has the key.
-pub fn find(text: &[u8], key: &[u8]) -> Place
-    ensures { (result.start ≤ result.end) × (result.end ≤ length text.now) }
+// Where the value of the first line with a key stands. Kept: the loop goes from line to line, since where a line ends is asked for too.
+pub fn find(text: &[u8], key: &[u8]) -> Option<Place>
+    ensures { IfSome result (λ p. (p.start ≤ p.end) × (p.end ≤ length text.now)) }
 {
     let mut at = 0;
     while at < text.len() {
         let end = end_of(text, at);
-        if key.len() <= end - at {
-            let start = at + key.len();
-            if octets::same(&text[at..start], key) {
-                return Place { start, end };
-            }
+        if text[at..end].starts_with(key) {
+            return Some(Place {
+                start: at + key.len(),
+                end,
+            });
         }
         at = end + 1;
     }
-    Place { start: 0, end: 0 }
+    None
 }
 
-// That value.
+// That value, or nothing.
 pub fn value<'a>(row: &'a [u8], key: &[u8]) -> &'a [u8] {
-    let place = find(row, key);
-    let start = place.start;
-    let end = place.end;
-    &row[start..end]
+    match find(row, key) {
+        Some(place) => &row[place.start..place.end],
+        None => b"",
+    }
 }
 
 // A value in hexadecimal: its bytes, and how many there are.
@@ -60,7 +59,7 @@ pub fn bytes(rt: &impl Print, row: &[u8], key: &[u8], into: &mut [u8; MOST]) -> 
 {
     let text = value(row, key);
     if text.len() <= 2 * MOST {
-        if let Octets::Count(n) = unhex(text, into) {
+        if let Some(n) = unhex(text, into) {
             return Ok(n);
         }
     }
@@ -68,20 +67,23 @@ pub fn bytes(rt: &impl Print, row: &[u8], key: &[u8], into: &mut [u8; MOST]) -> 
     Ok(0)
 }
 
-// A value of one byte in hexadecimal.
-pub fn byte(rt: &impl Print, row: &[u8], key: &[u8]) -> io::Result<u32> {
-    if let Numeral::Value(n) = one_byte(value(row, key)) {
-        return Ok(n);
+// A value that was read; one that could not be prints `malformed`, and counts as 0.
+fn or_malformed<N: Default + Drop>(rt: &impl Print, read: Option<N>) -> io::Result<N> {
+    match read {
+        Some(n) => Ok(n),
+        None => {
+            rt.write_all(b"malformed ")?;
+            Ok(N::default())
+        }
     }
-    rt.write_all(b"malformed ")?;
-    Ok(0)
+}
+
+// A value of one byte in hexadecimal.
+pub fn byte(rt: &impl Print, row: &[u8], key: &[u8]) -> io::Result<u8> {
+    or_malformed(rt, one_byte(value(row, key)))
 }
 
 // A value in decimal.
 pub fn number(rt: &impl Print, row: &[u8], key: &[u8]) -> io::Result<u32> {
-    if let Numeral::Value(n) = unsigned(value(row, key)) {
-        return Ok(n);
-    }
-    rt.write_all(b"malformed ")?;
-    Ok(0)
+    or_malformed(rt, unsigned(value(row, key)))
 }

@@ -5,7 +5,7 @@ ghost use Rattle.wire.specs.Shape.{request};
 ghost use Rattle.authentication.specs.Promises.{Ready, Judges};
 ghost use Rattle.recovery.specs.Recovery.{recover_key};
 
-use authentication::{Found, Verdict, identity};
+use authentication::{Verdict, identity};
 use unit::{Refusal, TagUnit};
 use wire::{Head, signing};
 
@@ -13,35 +13,22 @@ use wire::{Head, signing};
 fn consents(consent: u16, pairing: bool) -> bool
     ensures { result ≡ (ltb 0 consent || pairing) }
 {
-    if 0 < consent {
-        return true;
-    }
-    pairing
+    0 < consent || pairing
 }
 
 // 0x04: recovers the identity key, with consent or in pairing mode.
-pub fn recover_key(u: TagUnit, h: Head, additional: &[u8]) -> Verdict
+pub fn recover_key(u: TagUnit, h: Head, additional: &[u8]) -> Result<Verdict, Refusal>
     requires { Ready u h.size additional.now }
     ensures { Judges u h.id (recover_key u (request h additional.now)) result }
 {
-    let a = u.accounts;
-    let found = signers::owner_place(a);
-    let Found::At(place) = found else {
-        return answering::denied(u, Refusal::NotAuthenticated);
-    };
+    let place = signers::owner_place(u.accounts).ok_or(Refusal::NotAuthenticated)?;
     let recovery = identity::derived_key(u, signing::RECOVERY);
-    let n = u.nonces;
-    let nonce = n.newest;
-    let right = authentication::tagged(recovery, nonce, h, additional);
-    let agreed = consents(u.consent, u.pairing);
-    if !right {
-        return answering::denied(u, Refusal::NotAuthenticated);
+    if !authentication::tagged(recovery, u.nonces.newest, h, additional) {
+        return Err(Refusal::NotAuthenticated);
     }
-    if !agreed {
-        return answering::denied(u, Refusal::NoConsent);
+    if !consents(u.consent, u.pairing) {
+        return Err(Refusal::NoConsent);
     }
-    let k = u.identity;
-    let held = k.bytes;
-    let data = key_blocks::encrypted_key(signers::key_at(a, place), held);
-    answering::granted(u, recovery, &data)
+    let data = key_blocks::encrypted_key(signers::key_at(u.accounts, place), u.identity.bytes);
+    Ok(answering::granted(u, recovery, &data))
 }

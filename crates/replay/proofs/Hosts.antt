@@ -1,5 +1,6 @@
 -- A host that begins, feeds and finishes has written the replay of its file: what the calls of `feed` took and wrote, one after another, is what
 -- feeding the whole prints, and the law of any pieces joins that to `replay`.
+use Rattle.std.specs.Prelude.{Option, Some, None}
 use Prim.Native.Nat.{ℕ}
 use mathlib.Core.Path.{◌≡◌, refl, sym, ap, ◌∙◌}
 use mathlib.Core.Bool.{Bool, true, false, true≢false}
@@ -8,8 +9,6 @@ use lib.Dec.{leb}
 use lib.ListN.{length, take, drop}
 use lib.Seq.{take_at}
 use Rattle.session.specs.declared.Session.{Session}
-use Rattle.session.specs.declared.Finished.{Finished}
-use Rattle.session.specs.declared.Finished.TheVariants as finished
 use Rattle.session.specs.Replay.{replay}
 use Rattle.session.specs.Feeding.{fed, fed_to, finish, first, in_pieces, whole}
 use Rattle.session.specs.Session.{state_of, finish_room, Feeds, Finishes}
@@ -30,15 +29,15 @@ fed_calls (more {s} {t} {z} {piece} {before} {after} {input} {output} {taken} {w
     ∙ rw (← f.state_is, fed_calls rest, ← wrote f)
 
 -- what `finish` wrote
-abbrev wrote_bytes : Finished → ℕ
-wrote_bytes (finished.Wrote n) = n
-wrote_bytes finished.NoRoom = 0
+abbrev wrote_bytes : Option ℕ → ℕ
+wrote_bytes (Some n) = n
+wrote_bytes None = 0
 
-abbrev wrote_any : Finished → Bool
-wrote_any (finished.Wrote n) = true
-wrote_any finished.NoRoom = false
+abbrev wrote_any : Option ℕ → Bool
+wrote_any (Some n) = true
+wrote_any None = false
 
-finished_text : {z : Session} {before after : List ℕ} {n : ℕ} → Finishes z before (finished.Wrote n) after → take n after ≡ finish (state_of z)
+finished_text : {z : Session} {before after : List ℕ} {n : ℕ} → Finishes z before (Some n) after → take n after ≡ finish (state_of z)
 finished_text {z} {before} {after} {n} f = go (leb finish_room (length before)) refl
   where
     text : List ℕ
@@ -46,12 +45,12 @@ finished_text {z} {before} {after} {n} f = go (leb finish_room (length before)) 
 
     go : (b : Bool) → leb finish_room (length before) ≡ b → take n after ≡ text
     go true e =
-        let result : finished.Wrote n ≡ finished.Wrote (length text) = f.result_is ∙ rw e in
+        let result : Some n ≡ Some (length text) = f.result_is ∙ rw e in
         let size : n ≡ length text = ap wrote_bytes result in
         let bytes : after ≡ text ++ drop (length text) before = f.bytes_are ∙ rw e in
         rw bytes (take_at text (drop (length text) before) n (sym size))
     go false e =
-        let result : finished.Wrote n ≡ finished.NoRoom = f.result_is ∙ rw e in
+        let result : Some n ≡ None = f.result_is ∙ rw e in
         absurd (true≢false (ap wrote_any result))
 
 pub any_host : AnyHost

@@ -1,7 +1,7 @@
 -- A host that begins, feeds and finishes: what its calls take and write, in total.
+use Rattle.std.specs.Prelude.{Some}
 use Rattle.std.specs.Prelude.{ℕ, ◌≡◌, List, [], ◌++◌, take}
 use Rattle.session.specs.declared.Session.{Session}
-use Rattle.session.specs.declared.Finished.TheVariants as finished
 use Rattle.session.specs.Replay as replay
 use Rattle.session.specs.Feeding.{first}
 use Rattle.session.specs.Session.{state_of, Feeds, Finishes}
@@ -16,4 +16,4 @@ pub data Calls : Session → List ℕ → List ℕ → Session → Type 0 where
 abbrev pub AnyHost : Type 0
 AnyHost =
     (s z : Session) (input output before after : List ℕ) (n : ℕ) → state_of s ≡ first → Calls s input output z
-    → Finishes z before (finished.Wrote n) after → output ++ take n after ≡ replay.replay input
+    → Finishes z before (Some n) after → output ++ take n after ≡ replay.replay input

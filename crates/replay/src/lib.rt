@@ -23,12 +23,5 @@ pub fn feed(s: Session, piece: &[u8], out: &mut [u8]) -> Fed
 fn bounded(s: Session) -> bool
     ensures { BoundedBy s result }
 {
-    let run = s.run;
-    if LONGEST_LINE < s.count {
-        return false;
-    }
-    if LAST_NUMBER < run.number {
-        return false;
-    }
-    run.filled <= 128
+    s.count <= LONGEST_LINE && s.run.number <= LAST_NUMBER && s.run.filled <= 128
 }

@@ -72,8 +72,8 @@ fn long_case(
     last: &[u8],
 ) -> io::Result<()> {
     rt.write_all(name)?;
-    let turn = replay_file::fed(rt, near, last);
-    let session = turn.session;
+    let mut session = near;
+    let _ = replay_file::fed(rt, &mut session, last);
     replay_file::finish(rt, session);
     Ok(())
 }
@@ -82,17 +82,13 @@ fn long_case(
 fn pressed() -> Session {
     let start = session_ends::begin();
     let mut session = after(start, b"power=-20\ncomponents=3\nvolume=1\n");
-    let mut presses = 0;
-    while presses < PRESSES {
-        let next = after(session, b"event=button\n");
-        session = next;
-        presses += 1;
+    for _ in 0..PRESSES {
+        session = after(session, b"event=button\n");
     }
     session
 }
 
 fn after(s: Session, piece: &[u8]) -> Session {
     let mut out = [0u8; 512];
-    let fed = replay::feed(s, piece, &mut out);
-    fed.session
+    replay::feed(s, piece, &mut out).session
 }

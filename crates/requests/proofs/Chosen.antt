@@ -7,6 +7,7 @@ use native.Mathlib.Omega.{arith}
 use lib.Dec.{ltb}
 use lib.ListN.{length, take, drop, length-drop}
 use lib.Seq.{take_all}
+use Rattle.std.specs.Prelude.{Err}
 use Rattle.wire.specs.Shape.{Request, request, parsed, size_legal, shape_legal}
 use Rattle.wire.specs.declared.Head.{Head}
 use Rattle.unit.specs.Change.{spent}
@@ -16,13 +17,11 @@ use Rattle.unit.specs.Outcome.{Answers}
 use Rattle.unit.specs.WellFormed.{well_formed}
 use Rattle.unit.specs.declared.TagUnit.{TagUnit}
 use Rattle.unit.specs.declared.Step.{Step}
-use Rattle.unit.specs.declared.Reply.{Reply}
 use Rattle.unit.specs.declared.Refusal.{Refusal}
 use Rattle.unit.proofs.Kept.{spent_kept}
 use Rattle.unit.proofs.Ends.{refused_answers}
 use Rattle.authentication.specs.Judgement.{Judgement, rejects, not_authenticated, invalid_value, concluded}
-use Rattle.authentication.specs.declared.Verdict.{Verdict}
-use Rattle.authentication.specs.Promises.{Ready, Judges}
+use Rattle.authentication.specs.Promises.{Ruling, Ready, Judges}
 use Rattle.authentication.proofs.Judged.{refusal}
 use Rattle.sizes.specs.Sizes.{head_size}
 use Rattle.handlers.specs.ById.{by_id}
@@ -49,7 +48,7 @@ module _ (u : TagUnit) (w : List ℕ) (reach : ℕ) where
       judged_by_id met = rw (shaped, live, met)
 
   -- The whole write: refused with a reach that is outside, and else judged on the unit with its nonce spent
-  pub reach_refused : (r : Step) (lent : List ℕ) → (r.unit ≡ u) × (r.reply ≡ Reply.Refused Refusal.OutOfRange)
+  pub reach_refused : (r : Step) (lent : List ℕ) → (r.unit ≡ u) × (r.reply ≡ Err Refusal.OutOfRange)
       → inside reach u.settings.components ≡ false → Answers (written u w reach) r.unit r.reply lent lent
   unfolding written
   reach_refused r lent ends unmet = rw unmet (refused_answers lent ends)
@@ -59,7 +58,7 @@ module _ (u : TagUnit) (w : List ℕ) (reach : ℕ) where
   written_judged met = rw met
 
   module _ (within : inside reach u.settings.components ≡ true) {after : TagUnit} (changed : after ≡ spent u) where
-    pub write_refused : (r : Step) (x : Refusal) (lent : List ℕ) → (r.unit ≡ after) × (r.reply ≡ Reply.Refused x)
+    pub write_refused : (r : Step) (x : Refusal) (lent : List ℕ) → (r.unit ≡ after) × (r.reply ≡ Err x)
         → judged u w reach ≡ rejects (refusal_number x) → Answers (written u w reach) r.unit r.reply lent lent
     write_refused r x lent ends is = rw (written_judged within) (refusal (spent u) (judged u w reach) r x lent (ends.0 ∙ changed, ends.1) is)
 
@@ -86,7 +85,7 @@ module _ (u : TagUnit) (w : List ℕ) (reach : ℕ) where
             rw (id, size) (sizes_legal w shaped),
           )
 
-      pub write_judged : (r : Step) {v : Verdict} {before last : List ℕ} → judged u w reach ≡ by_id (spent u) (parsed w) reach
+      pub write_judged : (r : Step) {v : Ruling} {before last : List ℕ} → judged u w reach ≡ by_id (spent u) (parsed w) reach
           → Judges after h.id (by_id after (request h (take (length w - head_size) (drop head_size w))) reach) v
           → ((j : Judgement) → Judges after h.id j v → Answers (concluded after j) r.unit r.reply before last)
           → Answers (written u w reach) r.unit r.reply before last

@@ -17,10 +17,7 @@ const FIRST_KEYED: u8 = 0x03;
 fn key_there(id: u8, held: bool) -> bool
     ensures { result ≡ (ltb id needs_key || held) }
 {
-    if id < FIRST_KEYED {
-        return true;
-    }
-    held
+    id < FIRST_KEYED || held
 }
 
 // The whole write. With a reach outside the ringable mask it is refused; else it spends the live nonce, whatever follows.
@@ -42,8 +39,6 @@ pub fn write(u: TagUnit, w: &[u8], reach: u32, answer: &mut [u8]) -> Step
     if !key_there(h.id, u.identity.held) {
         return end::refuse(after, Refusal::NotAuthenticated);
     }
-    let n = after.nonces;
-    let nonce = n.newest;
-    let v = handlers::by_id(after, h, &w[HEAD_SIZE..], reach as u8);
-    answering::conclude(v, nonce, h.id, answer)
+    let judged = handlers::by_id(after, h, &w[HEAD_SIZE..], reach as u8);
+    answering::conclude(after, judged, h.id, answer)
 }

@@ -19,11 +19,7 @@ pub fn stop_decision(sound: Sound, reach: u8) -> Decision
 {
     match sound {
         Sound::Silent => Decision::Stopped,
-        Sound::Ringing {
-            mask,
-            volume: _,
-            left: _,
-        } => {
+        Sound::Ringing { mask, .. } => {
             if mask & reach == 0 {
                 return Decision::Failed;
             }

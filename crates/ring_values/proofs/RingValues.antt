@@ -67,6 +67,3 @@ module _ (s : Settings) (a : List ℕ) {mask : ℕ} (is : mask ≡ ring_mask s a
 -- All components of a unit that has none, by the mask that is asked for
 pub none_asked : (s : Settings) (a : List ℕ) {mask : ℕ} → mask ≡ ring_mask s a → asked_mask a ≡ whole_mask → eqb mask 0 ≡ all_of_none s a
 none_asked s a is whole = rw (is, eq-eqb (asked_mask a) whole_mask whole)
-
-pub some_asked : (s : Settings) (a : List ℕ) → (asked_mask a ≡ whole_mask → ⊥) → false ≡ all_of_none s a
-some_asked s a other = rw (ne_eqb (asked_mask a) whole_mask other)

@@ -48,10 +48,7 @@ pub fn all_of_none(s: Settings, ring: u8, additional: &[u8]) -> bool
     requires { (length additional.now ≡ ring_data) × (ring ≡ ring_mask s additional.now) }
     ensures { result ≡ all_of_none s additional.now }
 {
-    if additional[0] == WHOLE_MASK {
-        return ring == 0;
-    }
-    false
+    additional[0] == WHOLE_MASK && ring == 0
 }
 
 // Whether the values of a ring with this mask are legal.
@@ -95,11 +92,7 @@ pub fn fail_data(sound: Sound) -> [u8; answers::NOTICE_SIZE]
 {
     match sound {
         Sound::Silent => answers::notice_data(answers::FAILED, 0, 0),
-        Sound::Ringing {
-            mask,
-            volume: _,
-            left,
-        } => answers::notice_data(answers::FAILED, mask, left),
+        Sound::Ringing { mask, left, .. } => answers::notice_data(answers::FAILED, mask, left),
     }
 }
 
@@ -109,12 +102,8 @@ pub fn sound_state(sound: Sound) -> [u8; STATE_SIZE]
 {
     match sound {
         Sound::Silent => [0; STATE_SIZE],
-        Sound::Ringing {
-            mask,
-            volume: _,
-            left,
-        } => {
-            let tenths = octets::two(left);
+        Sound::Ringing { mask, left, .. } => {
+            let tenths = left.to_be_bytes();
             [mask, tenths[0], tenths[1]]
         }
     }

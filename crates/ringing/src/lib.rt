@@ -20,26 +20,30 @@ use unit::{Refusal, Sound, TagUnit, change};
 use wire::{Head, signing};
 
 // Rings, stops, or fails and changes nothing; the answer is a notice, signed with the write's own nonce.
-fn rung(u: TagUnit, key: Keyed, decision: Decision, volume: u8, left: u16) -> Verdict
+fn rung(
+    u: TagUnit,
+    key: Keyed,
+    decision: Decision,
+    volume: u8,
+    left: u16,
+) -> Result<Verdict, Refusal>
     requires { key ≡ keyed_by (ring_key u.identity.bytes) }
     ensures { Judges u ring_id (rung_by decision u volume left) result }
 {
     match decision {
         Decision::Started(mask) => {
-            let n = u.nonces;
-            let nonce = n.newest;
             let sound = Sound::Ringing { mask, volume, left };
             let started = answers::notice_data(answers::STARTED, mask, left);
-            answering::granted(change::with_sound(u, sound, nonce), key, &started)
+            let after = change::with_sound(u, sound, u.nonces.newest);
+            Ok(answering::granted(after, key, &started))
         }
         Decision::Stopped => {
             let stopped = answers::notice_data(answers::BY_REQUEST, 0, 0);
-            answering::granted(change::silenced(u), key, &stopped)
+            Ok(answering::granted(change::silenced(u), key, &stopped))
         }
         Decision::Failed => {
-            let sound = u.sound;
-            let failure = fail_data(sound);
-            answering::granted(u, key, &failure)
+            let failure = fail_data(u.sound);
+            Ok(answering::granted(u, key, &failure))
         }
     }
 }
@@ -49,48 +53,37 @@ fn let_through(u: TagUnit, key: Keyed, h: Head, additional: &[u8]) -> bool
     requires { (key ≡ keyed_by (ring_key u.identity.bytes)) × (length additional.now ≤ most_length) }
     ensures { result ≡ (is_skipped u.protection || is_tagged (ring_key u.identity.bytes) (last_nonce u) (request h additional.now)) }
 {
-    let protection = u.protection;
-    if skips(protection) {
-        return true;
-    }
-    let n = u.nonces;
-    let nonce = n.newest;
-    authentication::tagged(key, nonce, h, additional)
+    skips(u.protection) || authentication::tagged(key, u.nonces.newest, h, additional)
 }
 
 // 0x05: rings, or stops the ring, where parts can be reached.
-pub fn ring(u: TagUnit, h: Head, additional: &[u8], reach: u8) -> Verdict
+pub fn ring(u: TagUnit, h: Head, additional: &[u8], reach: u8) -> Result<Verdict, Refusal>
     requires { Ready u h.size additional.now × ((length additional.now ≡ ring_data) × (h.id ≡ ring_id)) }
     ensures { Judges u h.id (ring_by u (request h additional.now) reach) result }
 {
     let key = identity::derived_key(u, signing::RING);
     if !let_through(u, key, h, additional) {
-        return answering::denied(u, Refusal::NotAuthenticated);
+        return Err(Refusal::NotAuthenticated);
     }
-    let s = u.settings;
-    let ring = ring_mask(s, additional);
-    if !ring_legal(s, ring, additional) {
-        return answering::denied(u, Refusal::InvalidValue);
+    let ring = ring_mask(u.settings, additional);
+    if !ring_legal(u.settings, ring, additional) {
+        return Err(Refusal::InvalidValue);
     }
-    let volume = held_volume(s, additional);
+    let volume = held_volume(u.settings, additional);
     let left = asked_timeout(additional);
-    let sound = u.sound;
-    let decision = ring_decision(sound, ring, reach);
+    let decision = ring_decision(u.sound, ring, reach);
     rung(u, key, decision, volume, left)
 }
 
 // 0x06: reads what rings.
-pub fn read_sound(u: TagUnit, h: Head, additional: &[u8]) -> Verdict
+pub fn read_sound(u: TagUnit, h: Head, additional: &[u8]) -> Result<Verdict, Refusal>
     requires { Ready u h.size additional.now }
     ensures { Judges u h.id (read_sound u (request h additional.now)) result }
 {
     let key = identity::derived_key(u, signing::RING);
-    let n = u.nonces;
-    let nonce = n.newest;
-    if !authentication::tagged(key, nonce, h, additional) {
-        return answering::denied(u, Refusal::NotAuthenticated);
+    if !authentication::tagged(key, u.nonces.newest, h, additional) {
+        return Err(Refusal::NotAuthenticated);
     }
-    let sound = u.sound;
-    let state = sound_state(sound);
-    answering::granted(u, key, &state)
+    let state = sound_state(u.sound);
+    Ok(answering::granted(u, key, &state))
 }

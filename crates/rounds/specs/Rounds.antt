@@ -1,5 +1,5 @@
 -- The rounds of AES as FIPS 197 defines them: the cipher and the inverse cipher over Nr, under a key schedule w.
-use Rattle.std.specs.Prelude.{ℕ, zero, suc, ◌+◌, ◌-◌, List}
+use Rattle.std.specs.Prelude.{ℕ, zero, suc, ◌-◌, List}
 use Rattle.steps.specs.Steps.{SubBytes, ShiftRows, MixColumns, InvShiftRows, InvSubBytes, InvMixColumns, AddRoundKey}
 
 -- §5.1: the state after the first AddRoundKey and n full rounds

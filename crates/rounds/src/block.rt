@@ -1,5 +1,7 @@
 // The cipher and the inverse cipher of FIPS 197, §5.1 and §5.3, over Nr: one block under a key schedule in words. Full rounds go by a table of
 // columns, the last one by a box; one of the two is off the stack when the other is set up.
+// Kept: the schedule and Nr are two parameters with their bound: the schedule is lent as a slice of two lengths, and a type over it would be
+// made for each block.
 ghost use Rattle.std.specs.Prelude.{◌≡◌, List, ℕ, ◌+◌, ◌-◌, ◌*◌, ◌≤◌, length};
 ghost use Rattle.words.specs.Words.{bytes_of};
 ghost use Rattle.inverse_keys.specs.Keys.{InverseKeys};
@@ -12,18 +14,16 @@ use steps::forward::{add_round_key, shift_rows, sub_bytes};
 use steps::inverse::{inv_shift_rows, inv_sub_bytes};
 use substitution::{inv_sub_table, sub_table};
 
-// All rounds but the last.
+// All rounds but the last. Kept: a round's state goes by `next`, since the proof of a call's result put straight into an array doesn't close.
 fn full_rounds(keys: &[u32], nr: usize, block: [u8; 16]) -> [u8; 16]
     requires { (1 ≤ nr) × ((nr ≤ 14) × (length keys.now ≡ 4 * (nr + 1))) }
     ensures { result ≡ rounds (bytes_of keys.now) (nr - 1) block }
 {
     let columns = mixed_table();
     let mut s = add_round_key(keys, 0, block);
-    let mut n: usize = 0;
-    while n < nr - 1 {
-        let next = full_round(&columns, keys, n + 1, s);
+    for round in 1..nr {
+        let next = full_round(&columns, keys, round, s);
         s = next;
-        n += 1;
     }
     s
 }
@@ -52,11 +52,9 @@ fn inv_full_rounds(keys: &[u32], nr: usize, block: [u8; 16]) -> [u8; 16]
 {
     let columns = unmixed_table();
     let mut s = add_round_key(keys, nr, block);
-    let mut n: usize = nr - 1;
-    while 0 < n {
-        let next = inv_full_round(&columns, keys, n, s);
+    for round in (1..nr).rev() {
+        let next = inv_full_round(&columns, keys, round, s);
         s = next;
-        n -= 1;
     }
     s
 }

@@ -9,13 +9,13 @@ use lib.Dec.{leb}
 use lib.IntN.{ℤ}
 use lib.ListN.{length, take}
 use borrow.Author.Tests.{le-leb, lt-leb}
+use Rattle.std.specs.Prelude.{Ok, Err}
 use Rattle.laws.proofs.Flags.{and_fails_right}
 use Rattle.laws.specs.Answer.{Result, gives, refuses}
 use Rattle.unit.specs.Refusals.{refusal_number, end_of, ending}
 use Rattle.unit.specs.Outcome.{Outcome, Completes}
 use Rattle.unit.specs.declared.TagUnit.{TagUnit}
-use Rattle.unit.specs.declared.Reply.{Reply}
-use Rattle.unit.specs.declared.Reply.TheVariants.{Done, Refused}
+use Rattle.unit.specs.Types.{Reply}
 use Rattle.session.specs.declared.Run.{Run}
 use Rattle.lines.specs.declared.Awaited as code
 use Rattle.lines.specs.declared.Next.{Next}
@@ -54,17 +54,17 @@ module _ (n : ℕ) (u : TagUnit) {at written : ℕ} {before : List ℕ} {run : R
 
 -- the settings: a new unit, or a refusal that ends the run
 abbrev pub begun_by : Reply → TagUnit → ℕ → Fed
-begun_by (Done k) u n = fed_to (reading event (suc n) u []) []
-begun_by (Refused r) u n = fed_to ended (refused_text (refusal_number r))
+begun_by (Ok k) u n = fed_to (reading event (suc n) u []) []
+begun_by (Err r) u n = fed_to ended (refused_text (refusal_number r))
 
 pub begins_by : (o : Outcome) {u : TagUnit} (reply : Reply) (n : ℕ) → Completes o u reply → begun_by reply u n ≡ beginning o o.result n
 begins_by o {u} reply n p = rw p.unit_is (go o.result reply p.end_is)
   where
     go : (res : Result) (reply : Reply) → end_of reply ≡ ending res → begun_by reply o.unit n ≡ beginning o res n
-    go (gives a) (Done k) h = refl
-    go (gives a) (Refused r) h = let z : ◌≡◌ {A = ℕ} 0 1 = cc in absurd (omega arith)
-    go (refuses k) (Done m) h = let z : ◌≡◌ {A = ℕ} 0 1 = cc in absurd (omega arith)
-    go (refuses k) (Refused r) h = let same : refusal_number r ≡ k = cc in ap (λ (x : ℕ). fed_to ended (refused_text x)) same
+    go (gives a) (Ok k) h = refl
+    go (gives a) (Err r) h = let z : ◌≡◌ {A = ℕ} 0 1 = cc in absurd (omega arith)
+    go (refuses k) (Ok m) h = let z : ◌≡◌ {A = ℕ} 0 1 = cc in absurd (omega arith)
+    go (refuses k) (Err r) h = let same : refusal_number r ≡ k = cc in ap (λ (x : ℕ). fed_to ended (refused_text x)) same
 
 -- the run with what lines before were read as
 abbrev pub keeping : ℤ → ℕ → List ℕ → ℕ → Run → Run

@@ -1,9 +1,7 @@
 -- A session of the code as a state of the feeding, and what the public calls promise.
-use Rattle.std.specs.Prelude.{ℕ, suc, ◌+◌, ◌-◌, ◌≤◌, ◌<◌, ◌≡◌, Bool, true, false, cond, List, [], ◌∷◌, ◌++◌, leb, length, take, drop, ℤ}
+use Rattle.std.specs.Prelude.{ℕ, suc, ◌+◌, ◌-◌, ◌≤◌, ◌<◌, ◌≡◌, Bool, true, false, cond, List, [], ◌∷◌, ◌++◌, leb, length, take, drop, ℤ, Option, Some, None}
 use Rattle.session.specs.declared.Run.{Run}
 use Rattle.session.specs.declared.Session.{Session}
-use Rattle.session.specs.declared.Finished.{Finished}
-use Rattle.session.specs.declared.Finished.TheVariants as finished
 use Rattle.printing.specs.Answers.{line_room, malformed_room}
 use Rattle.lines.specs.Lines.{Expected}
 use Rattle.lines.specs.Promises.{expecting}
@@ -58,17 +56,13 @@ pub record Feeds (s : Session) (piece before : List ℕ) (session : Session) (ta
 abbrev pub finish_room : ℕ
 finish_room = malformed_room
 
-abbrev pub finished_as : List ℕ → List ℕ → Finished
-finished_as text before = choose (leb finish_room (length before)) (finished.Wrote (length text)) finished.NoRoom
-  where
-    choose : Bool → Finished → Finished → Finished
-    choose true a b = a
-    choose false a b = b
+abbrev pub finished_as : List ℕ → List ℕ → Option ℕ
+finished_as text before = cond (leb finish_room (length before)) (Some (length text)) None
 
 abbrev pub finished_bytes : List ℕ → List ℕ → List ℕ
 finished_bytes text before = cond (leb finish_room (length before)) (text ++ drop (length text) before) before
 
 -- What `finish` promises
-pub record Finishes (s : Session) (before : List ℕ) (r : Finished) (after : List ℕ) : Type 0 where
+pub record Finishes (s : Session) (before : List ℕ) (r : Option ℕ) (after : List ℕ) : Type 0 where
   pub result_is : r ≡ finished_as (finish (state_of s)) before
   pub bytes_are : after ≡ finished_bytes (finish (state_of s)) before

@@ -14,7 +14,7 @@ ghost use Rattle.session.specs.Closing.{Ready, Closing, Closes, ClosesLine, move
 use crate::{MOST_LINES, Progress, Run};
 use events::Event;
 use lines::{Awaited, Line, Next};
-use unit::{Reply, TagUnit};
+use unit::TagUnit;
 
 // A line is closed.
 pub fn close(run: Run, line: &[u8], out: &mut [u8], at: usize) -> Progress
@@ -25,10 +25,10 @@ pub fn close(run: Run, line: &[u8], out: &mut [u8], at: usize) -> Progress
         return breaks(run, out, at);
     }
     let mut bytes = [0u8; 128];
-    let next = run.next;
-    let told = lines::read(next, line, &mut bytes);
-    let what = told.line;
-    act(run, what, told.number, bytes, told.count, out, at)
+    let Some(told) = lines::read(run.next, line, &mut bytes) else {
+        return breaks(run, out, at);
+    };
+    act(run, told.line, told.number, bytes, told.count, out, at)
 }
 
 // What a line that was read does.
@@ -64,7 +64,6 @@ fn act(
             follow(read, awaited, at)
         }
         Line::Brings(event) => bring(run, event, number, &bytes[..count], out, at),
-        Line::Breaks => breaks(run, out, at),
     }
 }
 
@@ -73,16 +72,11 @@ fn advance(run: Run, next: Next, unit: TagUnit) -> Run
     requires { run.number ≤ replay.most_lines }
     ensures { result ≡ moved next unit run }
 {
-    let kept = run.kept;
     Run {
-        ended: run.ended,
         next,
         number: run.number + 1,
-        power: run.power,
-        components: run.components,
-        kept,
-        filled: run.filled,
         unit,
+        ..run
     }
 }
 
@@ -91,9 +85,8 @@ fn follow(run: Run, awaited: Awaited, at: usize) -> Progress
     requires { run.number ≤ replay.most_lines }
     ensures { (result.run ≡ moved (next.Inside awaited) run.unit run) × (result.written ≡ at) }
 {
-    let unit = run.unit;
     Progress {
-        run: advance(run, Next::Inside(awaited), unit),
+        run: advance(run, Next::Inside(awaited), run.unit),
         written: at,
     }
 }
@@ -104,16 +97,15 @@ fn create(run: Run, selectable: u32, out: &mut [u8], at: usize) -> Progress
     ensures { ClosesLine (sets_up run.power run.components selectable) run at out.old result.run result.written out.new }
 {
     let step = tag::new_unit(run.power, run.components, selectable);
-    let reply = step.reply;
-    match reply {
-        Reply::Done(_) => {
+    match step.reply {
+        Ok(_) => {
             let unit = step.unit;
             Progress {
                 run: advance(run, Next::Event, unit),
                 written: at,
             }
         }
-        Reply::Refused(refusal) => {
+        Err(refusal) => {
             let written = printing::refused(out, at, refusal);
             let mut after = run;
             after.ended = true;
@@ -130,13 +122,10 @@ fn bring(run: Run, event: Event, number: u32, bytes: &[u8], out: &mut [u8], at: 
     requires { Ready run at out.old }
     ensures { ClosesLine (brings (event_of event number (take run.filled run.kept) bytes.now)) run at out.old result.run result.written out.new }
 {
-    let u = run.unit;
-    let kept = run.kept;
-    let filled = run.filled;
-    let done = events::perform(u, event, number, &kept[..filled], bytes, out, at);
-    let unit = done.unit;
+    let kept = &run.kept[..run.filled];
+    let done = events::perform(run.unit, event, number, kept, bytes, out, at);
     Progress {
-        run: advance(run, Next::Event, unit),
+        run: advance(run, Next::Event, done.unit),
         written: done.written,
     }
 }
@@ -146,12 +135,8 @@ pub fn breaks(run: Run, out: &mut [u8], at: usize) -> Progress
     requires { (at + line_room ≤ length out.old) × BoundedRun run }
     ensures { Closes (fed_to ended (malformed_text run.number)) at out.old result.run result.written out.new }
 {
-    let number = run.number;
-    let written = printing::malformed(out, at, number);
-    let mut after = run;
-    after.ended = true;
     Progress {
-        run: after,
-        written,
+        run: Run { ended: true, ..run },
+        written: printing::malformed(out, at, run.number),
     }
 }

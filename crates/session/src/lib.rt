@@ -25,7 +25,8 @@ pub struct Run {
     pub number: u32,
     pub power: i32,
     pub components: u32,
-    // The bytes of an event's first line, where a second follows, the first `filled` of them.
+    // The bytes of an event's first line, where a second follows, the first `filled` of them. Kept: a Vec could run out of memory, and feeding cannot
+    // fail.
     pub kept: [u8; 128],
     pub filled: usize,
     pub unit: TagUnit,
@@ -38,7 +39,7 @@ pub struct Progress {
     pub written: usize,
 }
 
-// A run in the middle of a line: the line so far is the first `count` bytes.
+// A run in the middle of a line: the line so far is the first `count` bytes. Kept as the bytes of a run are.
 #[derive(Clone, Copy)]
 pub struct Session {
     pub run: Run,
@@ -60,13 +61,6 @@ pub struct Fed {
     // Bytes of the piece that were taken, and bytes that were written.
     pub taken: usize,
     pub written: usize,
-}
-
-// The end of a run: the bytes written, or that the lent bytes are too few.
-#[derive(Clone, Copy)]
-pub enum Finished {
-    Wrote(usize),
-    NoRoom,
 }
 
 // Room that holds what the end of a file prints.

@@ -7,7 +7,7 @@ ghost use Rattle.printing.specs.Texts.{malformed_text};
 ghost use Rattle.session.specs.Session.{state_of, finish_room, Bounded, Finishes};
 
 use lines::{Awaited, Next};
-use session::{FINISH_ROOM, Finished, Run, Session};
+use session::{FINISH_ROOM, Run, Session};
 use unit::change::no_unit;
 
 // A session before its first byte.
@@ -30,22 +30,21 @@ pub fn begin() -> Session
     }
 }
 
-// The end of the file: writes nothing, or that a line is missing or not closed. With fewer lent bytes than FINISH_ROOM: NoRoom, and nothing
-// is written.
-pub fn finish(s: Session, out: &mut [u8]) -> Finished
+// The end of the file: writes nothing, or that a line is missing or not closed, and gives the bytes written. With fewer lent bytes than
+// FINISH_ROOM none, and nothing is written.
+pub fn finish(s: Session, out: &mut [u8]) -> Option<usize>
     ensures { Finishes s out.old result out.new }
 {
     if out.len() < FINISH_ROOM {
-        return Finished::NoRoom;
+        return None;
     }
     let run = s.run;
     if run.ended {
-        return Finished::Wrote(0);
+        return Some(0);
     }
-    let next = run.next;
-    match next {
-        Next::Event => Finished::Wrote(unclosed(out, s.count, run.number)),
-        Next::Inside(_) => Finished::Wrote(printing::malformed(out, 0, run.number)),
+    match run.next {
+        Next::Event => Some(unclosed(out, s.count, run.number)),
+        Next::Inside(_) => Some(printing::malformed(out, 0, run.number)),
     }
 }
 

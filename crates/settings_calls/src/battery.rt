@@ -9,10 +9,9 @@ use unit::{Refusal, Step, TagUnit, end};
 pub fn told(u: TagUnit, level: u32) -> Step
     ensures { Completes (charged level u) result.unit result.reply }
 {
-    if level <= (HIGHEST_BATTERY as u32) {
-        let mut after = u;
-        after.battery = level as u8;
-        return end::accept(after, 0);
+    if (HIGHEST_BATTERY as u32) < level {
+        return end::refuse(u, Refusal::OutOfRange);
     }
-    end::refuse(u, Refusal::OutOfRange)
+    let battery = level as u8;
+    end::accept(TagUnit { battery, ..u }, 0)
 }

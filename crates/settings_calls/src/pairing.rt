@@ -9,7 +9,5 @@ use unit::{Step, TagUnit, end};
 pub fn turned(u: TagUnit, on: bool) -> Step
     ensures { Completes (giving [] (with_pairing on u)) result.unit result.reply }
 {
-    let mut after = u;
-    after.pairing = on;
-    end::accept(after, 0)
+    end::accept(TagUnit { pairing: on, ..u }, 0)
 }

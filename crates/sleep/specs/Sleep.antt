@@ -1,12 +1,11 @@
 -- When a sleeping unit has to wake: "the tenths until the next thing that time alone would do: a ring ends, consent ends, the window changes or
 -- the seconds return to 0".
-use Rattle.std.specs.Prelude.{ℕ, suc, ◌-◌, ◌≤◌, ◌<◌, ◌≡◌, true, false}
+use Rattle.std.specs.Prelude.{ℕ, suc, ◌-◌, ◌≤◌, ◌<◌, ◌≡◌, true, false, Result, Ok, Err}
 use Rattle.sizes.specs.Sizes.{window}
 use Rattle.unit.specs.declared.TagUnit.{TagUnit}
 use Rattle.unit.specs.declared.Sound.{Sound}
 use Rattle.unit.specs.declared.Refusal.{Refusal}
 use Rattle.unit.specs.WellFormed.{well_formed}
-use Rattle.sleep.specs.declared.Sleep.{Sleep}
 use Rattle.time.specs.Time.{one_tenth, tenths}
 
 -- what the next tenth does, of these four
@@ -28,7 +27,11 @@ pub record Soonest (u : TagUnit) (n : ℕ) : Type 0 where
   pub happens : Happens (later_by (n - 1) u)
   pub nothing_before : (m : ℕ) → suc m < n → Happens (later_by m u) → ⊥
 
+-- what the call gives: the tenths until then, or why they are not told
+abbrev pub Sleep : Type 0
+Sleep = Result ℕ Refusal
+
 -- What the call promises: that number, or refusal 2
 pub record Sleeps (u : TagUnit) (s : Sleep) : Type 0 where
-  pub until : well_formed u ≡ true → (n : ℕ) × (s ≡ Sleep.Until n) × Soonest u n
-  pub refused : well_formed u ≡ false → s ≡ Sleep.Refused Refusal.NotWellFormed
+  pub until : well_formed u ≡ true → (n : ℕ) × (s ≡ Ok n) × Soonest u n
+  pub refused : well_formed u ≡ false → s ≡ Err Refusal.NotWellFormed

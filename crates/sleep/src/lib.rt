@@ -6,14 +6,7 @@ ghost use Rattle.sleep.specs.Counts.{window_left, or_sooner, left_of};
 ghost use Rattle.sleep.specs.Sleep.{Soonest};
 
 use sizes::WINDOW_LENGTH;
-use unit::{Clock, Refusal, Sound, TagUnit};
-
-// The tenths until then, or why they are not told.
-#[derive(Clone, Copy)]
-pub enum Sleep {
-    Until(u32),
-    Refused(Refusal),
-}
+use unit::{Clock, Sound, TagUnit};
 
 // The tenths until the window changes.
 fn window_left(c: Clock) -> u32
@@ -28,10 +21,7 @@ fn window_left(c: Clock) -> u32
 fn or_sooner(count: u32, n: u32) -> u32
     ensures { result ≡ or_sooner count n }
 {
-    if count == 0 {
-        return n;
-    }
-    if count < n { count } else { n }
+    if count == 0 { n } else { count.min(n) }
 }
 
 // The tenths left of a ring; 0 where there is none.
@@ -40,11 +30,7 @@ fn ring_left(sound: Sound) -> u32
 {
     match sound {
         Sound::Silent => 0,
-        Sound::Ringing {
-            mask: _,
-            volume: _,
-            left,
-        } => left as u32,
+        Sound::Ringing { left, .. } => left as u32,
     }
 }
 
@@ -53,8 +39,6 @@ pub fn soonest(u: TagUnit) -> u32
     requires { well_formed u ≡ true }
     ensures { Soonest u result }
 {
-    let clock = u.clock;
-    let sound = u.sound;
-    let window = window_left(clock);
-    or_sooner(ring_left(sound), or_sooner(u.consent as u32, window))
+    let window = window_left(u.clock);
+    or_sooner(ring_left(u.sound), or_sooner(u.consent as u32, window))
 }

@@ -1,7 +1,8 @@
 -- The identifier that stands for the current window, with its r: the one place that says which it is, and whether the tag has one to show.
-use Rattle.std.specs.Prelude.{ℕ, ◌≡◌, Bool, true, cond, not, ◌&&◌, List, [], eqb}
+use Rattle.std.specs.Prelude.{ℕ, ◌≡◌, Bool, cond, not, ◌&&◌, List, [], eqb, Option, is_some, IfSome}
 use Rattle.sizes.specs.Sizes.{window}
 use Rattle.curve_laws.specs.Curves.{SECP160R1}
+use Rattle.identifier.specs.declared.Identifier.{Identifier}
 use Rattle.identifier.specs.Identifier.{pseudorandom, scalar, identifier_by, aligned}
 use Rattle.unit.specs.Change.{keyed, key_in_force}
 use Rattle.unit.specs.declared.TagUnit.{TagUnit}
@@ -23,8 +24,8 @@ stands u = keyed u && not (eqb (current_scalar u) 0)
 unfoldable pub shown_identifier : TagUnit → List ℕ
 shown_identifier u = cond (stands u) (current_identifier u) []
 
--- What is promised of the identifier that the code works out; where none stands its bytes are zeros that nobody reads
-pub record Current (u : TagUnit) (some : Bool) (r id : List ℕ) : Type 0 where
-  pub some_is : some ≡ stands u
-  pub r_is : stands u ≡ true → r ≡ current_r u
-  pub id_is : stands u ≡ true → id ≡ current_identifier u
+-- What is promised of the identifier that the code works out
+pub record Current (u : TagUnit) (i : Option Identifier) : Type 0 where
+  pub some_is : is_some i ≡ stands u
+  pub r_is : IfSome i (λ i. i.r ≡ current_r u)
+  pub id_is : IfSome i (λ i. i.id ≡ current_identifier u)

@@ -4,8 +4,8 @@ ghost use Rattle.std.specs.Prelude.{◌≡◌};
 ghost use Rattle.sizes.specs.Sizes.{window};
 ghost use Rattle.standing.specs.Standing.{Current};
 
-use identifier::Identifier160;
-use sizes::{IDENTIFIER_SIZE, WINDOW_LENGTH};
+use identifier::Identifier;
+use sizes::WINDOW_LENGTH;
 use unit::TagUnit;
 
 // The window of a moment: its seconds with the low 10 bits cleared.
@@ -16,17 +16,13 @@ fn window_of(seconds: u32) -> u32
 }
 
 // The identifier of the current window under the key in force, with its r. None without a key, and where r is 0. It takes a multiple on the curve.
-pub fn current(u: TagUnit) -> Identifier160
-    ensures { Current u result.some result.r result.id }
+pub fn current(u: TagUnit) -> Option<Identifier>
+    ensures { Current u result }
 {
     let k = u.identity;
     if k.held {
-        let key = k.bytes;
-        return identifier::of_key(key, window_of(u.clock.seconds));
-    }
-    Identifier160 {
-        some: false,
-        r: [0; IDENTIFIER_SIZE],
-        id: [0; IDENTIFIER_SIZE],
+        identifier::of_key(k.bytes, window_of(u.clock.seconds))
+    } else {
+        None
     }
 }

@@ -1,12 +1,12 @@
 -- The request 0x01, which any account key may make: the provisioning state. It is judged on the unit with its nonce spent.
-use Rattle.std.specs.Prelude.{ℕ, ◌+◌, Bool, false, cond, List, ◌∷◌}
+use Rattle.std.specs.Prelude.{ℕ, ◌+◌, Bool, false, cond, List, ◌∷◌, Some, None}
 use Rattle.std.proofs.Math.Option.{Option, some, none}
 use Rattle.laws.specs.Bytes.{same_bytes}
 use Rattle.tables.specs.Rows.{place_of}
 use Rattle.wire.specs.Shape.{Request}
 use Rattle.unit.specs.declared.TagUnit.{TagUnit}
 use Rattle.unit.specs.declared.Accounts.{Accounts}
-use Rattle.unit.specs.declared.Owner.{Owner}
+use Rattle.unit.specs.Types.{Owner}
 use Rattle.unit.specs.WellFormed.{held_keys, owner_key}
 use Rattle.standing.specs.Standing.{shown_identifier}
 use Rattle.unit.specs.Change.{with_accounts, with_owner, keyed}
@@ -15,8 +15,8 @@ use Rattle.authentication.specs.Judgement.{Judgement, accepts, under, answered, 
 
 -- 0x01: "with no owner makes that key the owner (house), and its answer already shows it as owner"
 abbrev pub claimed : Owner → List ℕ → Accounts → Accounts
-claimed Owner.Nobody key a = with_owner (Owner.Place (place_of key (held_keys a))) a
-claimed (Owner.Place p) key a = a
+claimed None key a = with_owner (Some (place_of key (held_keys a))) a
+claimed (Some p) key a = a
 
 abbrev pub owned_by : List ℕ → Accounts → Accounts
 owned_by key a = claimed a.owner key a

@@ -6,9 +6,9 @@ ghost use Rattle.wire.specs.Shape.{request};
 ghost use Rattle.authentication.specs.Promises.{Ready, Judges};
 ghost use Rattle.state_read.specs.State.{owned_by, is_key, state_bits, read_state};
 
-use authentication::{Signer, Verdict};
+use authentication::Verdict;
 use sizes::IDENTIFIER_SIZE;
-use unit::{Accounts, Owner, Refusal, TagUnit, change};
+use unit::{Accounts, Refusal, TagUnit, change};
 use wire::Head;
 
 const STATE_SIZE: usize = 1 + IDENTIFIER_SIZE;
@@ -29,10 +29,9 @@ fn owned_by(a: Accounts, place: usize) -> Accounts
     requires { (accounts_legal a ≡ true) × (place < length (held_keys a)) }
     ensures { result ≡ owned_by (get_or (held_keys a) place []) a }
 {
-    let owner = a.owner;
-    match owner {
-        Owner::Nobody => change::with_owner(a, Owner::Place(place)),
-        Owner::Place(_) => a,
+    match a.owner {
+        None => change::with_owner(a, Some(place)),
+        Some(_) => a,
     }
 }
 
@@ -41,11 +40,7 @@ fn owns(a: Accounts, place: usize) -> bool
     requires { ((accounts_legal a ≡ true) × (owner_legal a ≡ true)) × (place < length (held_keys a)) }
     ensures { result ≡ is_key (owner_key a) (get_or (held_keys a) place []) }
 {
-    let owner = a.owner;
-    match owner {
-        Owner::Nobody => false,
-        Owner::Place(p) => p == place,
-    }
+    a.owner == Some(place)
 }
 
 // What 0x01 gives where an identifier stands: the state, and behind it the identifier.
@@ -58,26 +53,19 @@ fn state_of(bits: u8, id: [u8; IDENTIFIER_SIZE]) -> [u8; STATE_SIZE]
 }
 
 // 0x01: the provisioning state. With no owner the key used becomes the owner; it is then the most recently used.
-pub fn read_state(u: TagUnit, h: Head, additional: &[u8]) -> Verdict
+pub fn read_state(u: TagUnit, h: Head, additional: &[u8]) -> Result<Verdict, Refusal>
     requires { Ready u h.size additional.now }
     ensures { Judges u h.id (read_state u (request h additional.now)) result }
 {
-    let found = signers::used_key(u, h, additional);
-    let Signer::Holder(place, ready) = found else {
-        return answering::denied(u, Refusal::NotAuthenticated);
+    let signer = signers::used_key(u, h, additional).ok_or(Refusal::NotAuthenticated)?;
+    let owned = owned_by(u.accounts, signer.place);
+    let bits = state_bits(u.identity.held, owns(owned, signer.place));
+    let after = TagUnit {
+        accounts: account_keys::used(owned, signer.place),
+        ..u
     };
-    let a = u.accounts;
-    let owned = owned_by(a, place);
-    let bits = state_bits(u.identity.held, owns(owned, place));
-    let used = account_keys::used(owned, place);
-    let mut after = u;
-    after.accounts = used;
-    let i = standing::current(u);
-    if i.some {
-        let id = i.id;
-        let data = state_of(bits, id);
-        return answering::granted(after, ready, &data);
+    match standing::current(u) {
+        Some(i) => Ok(answering::granted(after, signer.key, &state_of(bits, i.id))),
+        None => Ok(answering::granted(after, signer.key, &[bits])),
     }
-    let data = [bits];
-    answering::granted(after, ready, &data)
 }

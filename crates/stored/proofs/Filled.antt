@@ -10,10 +10,10 @@ use lib.IntN.{pos, negsuc}
 use lib.Signed.{mag}
 use lib.ListN.{length, get_or, take, drop}
 use borrow.Author.Tests.{ltb-true, ltb-false}
+use Rattle.std.specs.Prelude.{Some, None}
 use Rattle.laws.specs.Bytes.{number, number_after}
 use Rattle.octets.proofs.Numbers.{number_grows}
 use Rattle.sizes.specs.Sizes.{nonce_size, earlier_room, keys_room, identity_key_size}
-use Rattle.unit.specs.declared.Owner.{Owner}
 use Rattle.unit.specs.declared.Sound.{Sound}
 use Rattle.unit.specs.declared.Protection.{Protection}
 use Rattle.record_fields.specs.Part.{Octets, Part, Fields, making, ◌then◌of◌, run, whole, value_of, Fitting}
@@ -106,7 +106,7 @@ unfolding Fitting value_of nonces_fields
 nonces_filled =
     record { filled = all_fit nonces_fields ((((tt, byte_filled), flag_filled), plain_filled nonce_size), plain_filled earlier_room) }
 
-owner_fits : (place : ℕ) → place < 256 ^ count_size → (t : Bool) → Fitting owner_fields (cond t (Owner.Place place) Owner.Nobody)
+owner_fits : (place : ℕ) → place < 256 ^ count_size → (t : Bool) → Fitting owner_fields (cond t (Some place) None)
 unfolding Fitting owner_fields
 owner_fits place h true = ((tt, omega arith), h)
 owner_fits place h false = ((tt, omega arith), omega arith)

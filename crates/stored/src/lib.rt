@@ -50,25 +50,16 @@ pub fn encode(bytes: &mut [u8], u: TagUnit)
     requires { length bytes.old ≡ record_size }
     ensures { bytes.new ≡ encoded u }
 {
-    let settings = u.settings;
-    let clock = u.clock;
-    let nonces = u.nonces;
-    let accounts = u.accounts;
-    let identity = u.identity;
-    let waiting = u.waiting;
-    let sound = u.sound;
-    let ring_nonce = u.ring_nonce;
-    let protection = u.protection;
     kinds::put_byte(bytes, VERSION_AT, VERSION);
-    settings::put(bytes, SETTINGS_AT, settings);
-    clock::put(bytes, CLOCK_AT, clock);
-    issued_nonces::put(bytes, NONCES_AT, nonces);
-    accounts::put(bytes, ACCOUNTS_AT, accounts);
-    identity::put(bytes, IDENTITY_AT, identity);
-    identity::put(bytes, WAITING_AT, waiting);
-    sound::put(bytes, SOUND_AT, sound);
-    plain::put_nonce(bytes, RING_NONCE_AT, ring_nonce);
-    protection::put(bytes, PROTECTION_AT, protection);
+    settings::put(bytes, SETTINGS_AT, u.settings);
+    clock::put(bytes, CLOCK_AT, u.clock);
+    issued_nonces::put(bytes, NONCES_AT, u.nonces);
+    accounts::put(bytes, ACCOUNTS_AT, u.accounts);
+    identity::put(bytes, IDENTITY_AT, u.identity);
+    identity::put(bytes, WAITING_AT, u.waiting);
+    sound::put(bytes, SOUND_AT, u.sound);
+    plain::put_bytes(bytes, RING_NONCE_AT, u.ring_nonce);
+    protection::put(bytes, PROTECTION_AT, u.protection);
     kinds::put_tenths(bytes, CONSENT_AT, u.consent);
     kinds::put_flag(bytes, PAIRING_AT, u.pairing);
     kinds::put_byte(bytes, BATTERY_AT, u.battery);
@@ -79,31 +70,19 @@ fn fields(bytes: &[u8]) -> TagUnit
     requires { record_size ≤ length bytes.now }
     ensures { result ≡ value_of unit_fields bytes.now byte_size }
 {
-    let settings = settings::read(bytes, SETTINGS_AT);
-    let clock = clock::read(bytes, CLOCK_AT);
-    let nonces = issued_nonces::read(bytes, NONCES_AT);
-    let accounts = accounts::read(bytes, ACCOUNTS_AT);
-    let identity = identity::read(bytes, IDENTITY_AT);
-    let waiting = identity::read(bytes, WAITING_AT);
-    let sound = sound::read(bytes, SOUND_AT);
-    let ring_nonce = plain::nonce(bytes, RING_NONCE_AT);
-    let protection = protection::read(bytes, PROTECTION_AT);
-    let consent = kinds::tenths(bytes, CONSENT_AT);
-    let pairing = kinds::flag(bytes, PAIRING_AT);
-    let battery = bytes[BATTERY_AT];
     TagUnit {
-        settings,
-        clock,
-        nonces,
-        accounts,
-        identity,
-        waiting,
-        sound,
-        ring_nonce,
-        protection,
-        consent,
-        pairing,
-        battery,
+        settings: settings::read(bytes, SETTINGS_AT),
+        clock: clock::read(bytes, CLOCK_AT),
+        nonces: issued_nonces::read(bytes, NONCES_AT),
+        accounts: accounts::read(bytes, ACCOUNTS_AT),
+        identity: identity::read(bytes, IDENTITY_AT),
+        waiting: identity::read(bytes, WAITING_AT),
+        sound: sound::read(bytes, SOUND_AT),
+        ring_nonce: plain::bytes(bytes, RING_NONCE_AT),
+        protection: protection::read(bytes, PROTECTION_AT),
+        consent: kinds::tenths(bytes, CONSENT_AT),
+        pairing: kinds::flag(bytes, PAIRING_AT),
+        battery: bytes[BATTERY_AT],
     }
 }
 
@@ -124,9 +103,9 @@ pub fn decode(bytes: &[u8]) -> TagUnit
         return change::no_unit();
     }
     let u = fields(bytes);
-    let again = record(u);
-    if !octets::same(&again, bytes) {
-        return change::no_unit();
+    if octets::same(&record(u), bytes) {
+        u
+    } else {
+        change::no_unit()
     }
-    u
 }

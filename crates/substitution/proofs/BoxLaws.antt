@@ -3,7 +3,7 @@
 -- its power is computed once.
 use mathlib.Core.Path.{◌≡◌, sym, ap, ◌∙◌}
 use mathlib.Core.Bool.{cond}
-use mathlib.Core.List.{List, [], ◌∷◌, map}
+use mathlib.Core.List.{List, [], ◌∷◌}
 use Prim.Native.Nat.{ℕ, ◌<◌}
 use native.Mathlib.Omega.{arith}
 use borrow.Author.Tests.{ne_eqb}
@@ -12,8 +12,7 @@ use lib.ListN.{get_or}
 use Rattle.laws.proofs.Table.{same_below, below}
 use Rattle.substitution.specs.Field.{xtime, bit, ◌•◌, inverse}
 use Rattle.substitution.specs.Box.{byte_of, affine, affine_inverse, SBox, InvSBox}
-use Rattle.substitution.proofs.Bytes.{Bytes, affine_inverse_below, SBox-below, InvSBox-below}
-use Rattle.substitution.proofs.Maps.{map_agree}
+use Rattle.substitution.proofs.Bytes.{affine_inverse_below, SBox-below, InvSBox-below}
 use Rattle.substitution.proofs.Product.{product, product_from, squares, product_fast, inverse_fast}
 use Rattle.substitution.proofs.Boxes.{sbox, inv_sbox}
 

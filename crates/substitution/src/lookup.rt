@@ -5,11 +5,9 @@ ghost use Rattle.std.specs.Prelude.{◌≡◌, map, get_or};
 pub fn look_up(table: &[u8; 256], s: [u8; 16]) -> [u8; 16]
     ensures { result ≡ map (λ b. get_or table.now b 0) s }
 {
-    let mut out = [0u8; 16];
-    let mut i: usize = 0;
-    while i < 16 {
-        out[i] = table[s[i] as usize];
-        i += 1;
+    let mut out = s;
+    for b in &mut out {
+        *b = table[*b as usize];
     }
     out
 }

@@ -1,14 +1,14 @@
 -- Laws of tables: what stands at a place, how the loops decide their tests place by place, what one more row at the end does, and that in a
 -- table without equal rows bytes and places say the same.
 use Prim.Native.Nat.{ℕ, zero, suc, ◌+◌, ◌*◌, ◌-◌, ◌≤◌, ◌<◌}
-use mathlib.Core.Path.{◌≡◌, refl, sym, ap, ◌∙◌}
-use mathlib.Core.Bool.{Bool, true, false, not, cond, false≢true}
+use mathlib.Core.Path.{◌≡◌, refl, ap, ◌∙◌}
+use mathlib.Core.Bool.{Bool, true, false, not}
 use mathlib.Core.List.{List, [], ◌∷◌, ◌++◌}
 use mathlib.Core.Option.{some, none}
 use native.Mathlib.Nat.{suc-mul, zero-mul, mul-le-mul_right, zero-add, suc-add}
 use native.Mathlib.Numerals.{add-one}
 use native.Mathlib.Omega.{arith}
-use lib.ListN.{length, get_or, take, drop, length-append, length-drop, drop_of_length-le}
+use lib.ListN.{length, get_or, take, drop, length-drop, drop_of_length-le}
 use lib.Seq.{drop-cons, drop-drop, take_at, drop_at, take-append-le, drop-append-le, length-take-le, take-take, take-nil, drop-nil}
 use Rattle.laws.specs.Bytes.{same_bytes}
 use Rattle.laws.proofs.Flags.{and_left, and_right, both, or_left, or_right, or_fails_left, or_fails_right, fails, clash}

@@ -1,6 +1,7 @@
 #![tactic(auto)]
 // Tables of rows of one width, in one slice of bytes: the account keys and the nonces that a unit holds. Inner calls: a table has room
-// for the rows that its count says.
+// for the rows that its count says. Kept: a table, its width and its count are three parameters, since the record's room is an array whose rows are
+// named nowhere else.
 ghost use Rattle.std.specs.Prelude.{◌≡◌, ◌*◌, ◌≤◌, ◌<◌, length, drop, get_or, []};
 ghost use Rattle.tables.specs.Rows.{rows, among as is_among, distinct as are_distinct};
 
@@ -18,12 +19,10 @@ pub fn among(bytes: &[u8], table: &[u8], width: usize, from: usize, count: usize
     requires { (from ≤ count) × (count * width ≤ length table.now) }
     ensures { result ≡ is_among bytes.now (drop from (rows width count table.now)) }
 {
-    let mut i = from;
-    while i < count {
+    for i in from..count {
         if octets::same(bytes, row(table, width, count, i)) {
             return true;
         }
-        i += 1;
     }
     false
 }
@@ -33,9 +32,7 @@ pub fn distinct(table: &[u8], width: usize, count: usize) -> bool
     requires { count * width ≤ length table.now }
     ensures { result ≡ are_distinct (rows width count table.now) }
 {
-    let mut i = count;
-    while 0 < i {
-        i -= 1;
+    for i in (0..count).rev() {
         if among(row(table, width, count, i), table, width, i + 1, count) {
             return false;
         }

@@ -2,20 +2,41 @@
 // The calls of the tag. A unit goes in by value and comes back with the call's end. Any bytes and any record may be handed in: each call
 // ends with a result or with one refusal, in the order of its comment. A write refused with 0x80, 0x81 or 0x82 spends the nonce; any
 // other refusal leaves the unit as it was; no refusal writes a lent byte.
-ghost use Rattle.std.specs.Prelude.{length};
+ghost use Rattle.std.specs.Prelude.{◌≡◌, length};
 ghost use Rattle.unit.specs.Outcome.{Answers, Completes};
 ghost use Rattle.time.specs.Passing.{Passes};
 ghost use Rattle.sleep.specs.Sleep.{Sleeps};
 ghost use Rattle.settings_calls.specs.Settings.{new_unit};
 ghost use Rattle.tag.specs.Calls.{call, elapsed as elapsed_of};
+ghost use Rattle.tag.specs.Guards.{formed_guard, ready_guard};
 ghost use Rattle.tag.specs.Calls as of;
 
 use key_calls::{accounts, connection};
 use settings_calls::{battery, pairing, settings};
 use sizes::ANSWER_ROOM;
-use sleep::Sleep;
 use time::Passed;
 use unit::{Refusal, Step, TagUnit, end};
+
+// The guard of every call: refusal 2 for a unit that is not well formed.
+fn formed(u: TagUnit) -> Result<(), Refusal>
+    ensures { result ≡ formed_guard u }
+{
+    if well_formed::well_formed(u) {
+        Ok(())
+    } else {
+        Err(Refusal::NotWellFormed)
+    }
+}
+
+// The guards of a call with answer bytes: refusal 6 for too few of them, and then 2.
+fn ready(u: TagUnit, room: usize) -> Result<(), Refusal>
+    ensures { result ≡ ready_guard room u }
+{
+    if room < ANSWER_ROOM {
+        return Err(Refusal::NoRoom);
+    }
+    formed(u)
+}
 
 // A new unit, fresh, with its settings. Refusals: 1 for settings out of range; the record given back is then not well formed.
 pub fn new_unit(power: i32, components: u32, selectable: u32) -> Step
@@ -29,13 +50,10 @@ pub fn new_unit(power: i32, components: u32, selectable: u32) -> Step
 pub fn read(u: TagUnit, lent: &[u8], answer: &mut [u8]) -> Step
     ensures { Answers (call (of.read lent.now) (length answer.old) u) result.unit result.reply answer.old answer.new }
 {
-    if answer.len() < ANSWER_ROOM {
-        return end::refuse(u, Refusal::NoRoom);
+    match ready(u, answer.len()) {
+        Ok(()) => read_call::issued(u, lent, answer),
+        Err(refusal) => end::refuse(u, refusal),
     }
-    if well_formed::well_formed(u) {
-        return read_call::issued(u, lent, answer);
-    }
-    end::refuse(u, Refusal::NotWellFormed)
 }
 
 // Write: a request of the phone's, with the mask of the parts that can be reached now. Refusals: 6, 2, 1 for a mask with a bit outside the ringable
@@ -43,70 +61,59 @@ pub fn read(u: TagUnit, lent: &[u8], answer: &mut [u8]) -> Step
 pub fn write(u: TagUnit, w: &[u8], reach: u32, answer: &mut [u8]) -> Step
     ensures { Answers (call (of.write (record { bytes = w.now; reach = reach })) (length answer.old) u) result.unit result.reply answer.old answer.new }
 {
-    if answer.len() < ANSWER_ROOM {
-        return end::refuse(u, Refusal::NoRoom);
+    match ready(u, answer.len()) {
+        Ok(()) => requests::write(u, w, reach, answer),
+        Err(refusal) => end::refuse(u, refusal),
     }
-    if well_formed::well_formed(u) {
-        return requests::write(u, w, reach, answer);
-    }
-    end::refuse(u, Refusal::NotWellFormed)
 }
 
 // Button: stops a ring, with a notice; while silent gives consent. Refusals: 6, 2.
 pub fn button(u: TagUnit, answer: &mut [u8]) -> Step
     ensures { Answers (call of.button (length answer.old) u) result.unit result.reply answer.old answer.new }
 {
-    if answer.len() < ANSWER_ROOM {
-        return end::refuse(u, Refusal::NoRoom);
+    match ready(u, answer.len()) {
+        Ok(()) => press_call::pressed(u, answer),
+        Err(refusal) => end::refuse(u, refusal),
     }
-    if well_formed::well_formed(u) {
-        return press_call::pressed(u, answer);
-    }
-    end::refuse(u, Refusal::NotWellFormed)
 }
 
 // Time: any number of tenths. A ring that ends gives its notice and the tenth at which it ended. Refusals: 6, 2.
 pub fn elapsed(u: TagUnit, tenths: u32, answer: &mut [u8]) -> Passed
     ensures { Passes (elapsed_of tenths (length answer.old) u) result.unit result.reply result.ended answer.old answer.new }
 {
-    if answer.len() < ANSWER_ROOM {
-        return time::refused(u, Refusal::NoRoom);
+    match ready(u, answer.len()) {
+        Ok(()) => time::elapse(u, tenths, answer),
+        Err(refusal) => time::refused(u, refusal),
     }
-    if well_formed::well_formed(u) {
-        return time::elapse(u, tenths, answer);
-    }
-    time::refused(u, Refusal::NotWellFormed)
 }
 
 // How long the unit may sleep: the tenths until the next thing that time alone would do, a ring's end, consent's end, a new window or the seconds' return
 // to 0. From 1 to 10,240. The unit stays as it is. Refusal: 2.
-pub fn sleep_until(u: TagUnit) -> Sleep
+pub fn sleep_until(u: TagUnit) -> Result<u32, Refusal>
     ensures { Sleeps u result }
 {
-    if well_formed::well_formed(u) {
-        return Sleep::Until(sleep::soonest(u));
-    }
-    Sleep::Refused(Refusal::NotWellFormed)
+    formed(u)?;
+    Ok(sleep::soonest(u))
 }
 
 // Pairing mode on or off. Refusal: 2.
 pub fn pairing(u: TagUnit, on: bool) -> Step
     ensures { Completes (call (of.pairing on) 0 u) result.unit result.reply }
 {
-    if well_formed::well_formed(u) {
-        return pairing::turned(u, on);
+    match formed(u) {
+        Ok(()) => pairing::turned(u, on),
+        Err(refusal) => end::refuse(u, refusal),
     }
-    end::refuse(u, Refusal::NotWellFormed)
 }
 
 // The battery level, 0 to 3. Refusals: 2, 1.
 pub fn battery(u: TagUnit, level: u32) -> Step
     ensures { Completes (call (of.battery level) 0 u) result.unit result.reply }
 {
-    if well_formed::well_formed(u) {
-        return battery::told(u, level);
+    match formed(u) {
+        Ok(()) => battery::told(u, level),
+        Err(refusal) => end::refuse(u, refusal),
     }
-    end::refuse(u, Refusal::NotWellFormed)
 }
 
 // Adds an account key, which is then the most recently used; one already held changes nothing. In a full table the least recently used that is not
@@ -114,20 +121,20 @@ pub fn battery(u: TagUnit, level: u32) -> Step
 pub fn account_key(u: TagUnit, key: &[u8]) -> Step
     ensures { Completes (call (of.account_key key.now) 0 u) result.unit result.reply }
 {
-    if well_formed::well_formed(u) {
-        return accounts::added(u, key);
+    match formed(u) {
+        Ok(()) => accounts::added(u, key),
+        Err(refusal) => end::refuse(u, refusal),
     }
-    end::refuse(u, Refusal::NotWellFormed)
 }
 
 // The phone has hung up: an identity key that waits comes into force, and a ring ends without a notice. Without one nothing changes. Refusal: 2.
 pub fn disconnect(u: TagUnit) -> Step
     ensures { Completes (call of.disconnect 0 u) result.unit result.reply }
 {
-    if well_formed::well_formed(u) {
-        return end::accept(connection::ended(u), 0);
+    match formed(u) {
+        Ok(()) => end::accept(connection::ended(u), 0),
+        Err(refusal) => end::refuse(u, refusal),
     }
-    end::refuse(u, Refusal::NotWellFormed)
 }
 
 // The advertised frame, 28 or 29 bytes, of the identifier of the current window under the identity key in force. It takes a multiple on the curve. Refusals: 6,
@@ -135,11 +142,8 @@ pub fn disconnect(u: TagUnit) -> Step
 pub fn advertise(u: TagUnit, answer: &mut [u8]) -> Step
     ensures { Answers (call of.frame (length answer.old) u) result.unit result.reply answer.old answer.new }
 {
-    if answer.len() < ANSWER_ROOM {
-        return end::refuse(u, Refusal::NoRoom);
+    match ready(u, answer.len()) {
+        Ok(()) => advertising::shown(u, answer),
+        Err(refusal) => end::refuse(u, refusal),
     }
-    if well_formed::well_formed(u) {
-        return advertising::shown(u, answer);
-    }
-    end::refuse(u, Refusal::NotWellFormed)
 }

@@ -3,6 +3,7 @@
 // libraries `session_ends` and `replay` (from bytes to bytes) and `replay_file` (reads and writes).
 use program_files::{MOST_PATH, argument, fail, has_argument};
 
+// Kept, as in frame_read: standard input and a file are two types, so one function over both would have to be handed its work twice.
 fn main(rt: HostRuntime) {
     if !has_argument(&rt, 1) {
         let mut input = rt.stdin();

@@ -1,30 +1,30 @@
 #![tactic(auto)]
 // Time that passes, any number of tenths at once.
 ghost use Rattle.std.specs.Prelude.{◌≡◌, true, ◌-◌, ◌≤◌, length};
-ghost use Rattle.unit.specs.declared.Reply.{Reply};
 ghost use Rattle.sizes.specs.Sizes.{answer_room};
 ghost use Rattle.unit.specs.WellFormed.{well_formed};
 ghost use Rattle.time.specs.Time.{tenths as tenths_of};
 ghost use Rattle.time.specs.Passing.{Passes};
 ghost use Rattle.time.specs.Later.{clock_later, unit_later};
 
-use unit::{Clock, Refusal, Reply, Sound, TagUnit, change};
+use unit::{Clock, Refusal, Sound, TagUnit, change};
 
 // A step of time: the unit, the end, and the tenth, counted from the call's start, at which a ring ended, or 0.
+// Kept: `ended` is no Option, no plainer: the exported number has a 0 where no ring ended.
 #[derive(Clone, Copy)]
 pub struct Passed {
     pub unit: TagUnit,
-    pub reply: Reply,
+    pub reply: Result<usize, Refusal>,
     pub ended: u32,
 }
 
 // A step of time that is refused.
 pub fn refused(u: TagUnit, refusal: Refusal) -> Passed
-    ensures { (result.unit ≡ u) × ((result.reply ≡ Reply.Refused refusal) × (result.ended ≡ 0)) }
+    ensures { (result.unit ≡ u) × ((result.reply ≡ Err refusal) × (result.ended ≡ 0)) }
 {
     Passed {
         unit: u,
-        reply: Reply::Refused(refusal),
+        reply: Err(refusal),
         ended: 0,
     }
 }
@@ -46,10 +46,7 @@ fn clock_after(c: Clock, tenths: u32) -> Clock
 fn consent_after(consent: u16, tenths: u32) -> u16
     ensures { result ≡ consent - tenths }
 {
-    if tenths < (consent as u32) {
-        return consent - (tenths as u16);
-    }
-    0
+    (consent as u32).saturating_sub(tenths) as u16
 }
 
 // The unit some tenths later, its sound aside.
@@ -57,13 +54,11 @@ fn later(u: TagUnit, tenths: u32) -> TagUnit
     requires { u.clock.tenth ≤ 9 }
     ensures { result ≡ unit_later tenths u }
 {
-    let c = u.clock;
-    let clock = clock_after(c, tenths);
-    let consent = consent_after(u.consent, tenths);
-    let mut after = u;
-    after.clock = clock;
-    after.consent = consent;
-    after
+    TagUnit {
+        clock: clock_after(u.clock, tenths),
+        consent: consent_after(u.consent, tenths),
+        ..u
+    }
 }
 
 // Time on a well-formed unit with room for the answer.
@@ -72,11 +67,10 @@ pub fn elapse(u: TagUnit, tenths: u32, answer: &mut [u8]) -> Passed
     ensures { Passes (tenths_of tenths u) result.unit result.reply result.ended answer.old answer.new }
 {
     let after = later(u, tenths);
-    let sound = u.sound;
-    match sound {
+    match u.sound {
         Sound::Silent => Passed {
             unit: after,
-            reply: Reply::Done(0),
+            reply: Ok(0),
             ended: 0,
         },
         Sound::Ringing { mask, volume, left } => {
@@ -91,16 +85,14 @@ pub fn elapse(u: TagUnit, tenths: u32, answer: &mut [u8]) -> Passed
                 };
                 return Passed {
                     unit: change::with_sound(after, rest, nonce),
-                    reply: Reply::Done(0),
+                    reply: Ok(0),
                     ended: 0,
                 };
             }
-            let k = u.identity;
-            let identity = k.bytes;
-            let count = answers::stop_notice(identity, nonce, answers::TIMED_OUT, answer);
+            let count = answers::stop_notice(u.identity.bytes, nonce, answers::TIMED_OUT, answer);
             Passed {
                 unit: change::silenced(after),
-                reply: Reply::Done(count),
+                reply: Ok(count),
                 ended: end,
             }
         }

@@ -8,6 +8,7 @@ use mathlib.Core.Logic.{◌⊎◌, inl, inr}
 use lib.ListN.{length}
 use borrow.Author.Rules.{rules}
 use borrow.Author.Tests.{lt-ltb}
+use Rattle.std.specs.Prelude.{Some}
 use Rattle.laws.specs.Bytes.{all_zero}
 use Rattle.laws.proofs.Flags.{and_right, or_left, or_right, or_rest, true_or_false}
 use Rattle.laws.proofs.Same.{replicate_zeros}
@@ -23,7 +24,7 @@ use Rattle.nonces.specs.Nonces.{nonces_legal, nonce_fits, with_issued}
 use Rattle.nonces.proofs.Lines.{none_legal, spent_legal}
 use Rattle.nonces.proofs.Issuing.{issued_legal}
 use Rattle.unit.specs.declared.Accounts.{Accounts}
-use Rattle.unit.specs.declared.Owner.{Owner}
+use Rattle.unit.specs.Types.{Owner}
 use Rattle.unit.specs.declared.Identity.{Identity}
 use Rattle.unit.specs.declared.Sound.{Sound}
 use Rattle.unit.specs.declared.Protection.{Protection}
@@ -48,7 +49,7 @@ fresh_formed s h =
     })
 
 -- An owner's place and an identity key: any place will do
-placed_legal : (place : ℕ) (k : Identity) (o : Owner) → identity_legal k o ≡ true → identity_legal k (Owner.Place place) ≡ true
+placed_legal : (place : ℕ) (k : Identity) (o : Owner) → identity_legal k o ≡ true → identity_legal k (Some place) ≡ true
 unfolding identity_legal
 placed_legal place k o h = go (true_or_false k.held)
   where
@@ -97,16 +98,16 @@ module _ (u : TagUnit) (w : well_formed u ≡ true) where
       let waiting : identity_legal u.waiting a.owner ≡ true = rw same l.waiting in
       formed (with_accounts a u) (search rules)
 
-  pub owner_kept : (place : ℕ) → place < u.accounts.count → well_formed (with_accounts (with_owner (Owner.Place place) u.accounts) u) ≡ true
+  pub owner_kept : (place : ℕ) → place < u.accounts.count → well_formed (with_accounts (with_owner (Some place) u.accounts) u) ≡ true
   unfolding owner_legal held_keys
   owner_kept place h =
       let l = lines u w in
-      let accounts : AccountsLines (with_owner (Owner.Place place) u.accounts) =
+      let accounts : AccountsLines (with_owner (Some place) u.accounts) =
       record { room = l.accounts.room; count = l.accounts.count; different = l.accounts.different; spare = l.accounts.spare } in
       let owner = lt-ltb place u.accounts.count h in
       let identity = placed_legal place u.identity u.accounts.owner l.identity in
       let waiting = placed_legal place u.waiting u.accounts.owner l.waiting in
-      formed (with_accounts (with_owner (Owner.Place place) u.accounts) u) (search rules)
+      formed (with_accounts (with_owner (Some place) u.accounts) u) (search rules)
 
   pub identity_kept : (bytes : List ℕ) → owned u.accounts.owner ≡ true → well_formed (with_identity (record { held = true; bytes = bytes }) u) ≡ true
   unfolding identity_legal

@@ -8,6 +8,7 @@ use lib.ListN.{length, get_or, drop}
 use native.Mathlib.Omega.{arith}
 use lib.Dec.{leb, eqb}
 use borrow.Author.Tests.{ltb-true, leb-true, le-leb, eqb-true, eqb-false, eq-eqb, ne_eqb, not-true}
+use Rattle.std.specs.Prelude.{Some}
 use Rattle.laws.specs.Bytes.{all_zero}
 use Rattle.laws.proofs.Flags.{true_or_false, and_left, and_right, both, or_left, or_right, or_rest, or_false}
 use Rattle.tables.specs.Rows.{distinct}
@@ -20,7 +21,6 @@ use Rattle.unit.specs.declared.TagUnit.{TagUnit}
 use Rattle.unit.specs.declared.Settings.{Settings}
 use Rattle.unit.specs.declared.Accounts.{Accounts}
 use Rattle.unit.specs.declared.Sound.{Sound}
-use Rattle.unit.specs.declared.Owner.{Owner}
 use Rattle.unit.specs.declared.Protection.{Protection}
 
 pub record SettingsLines (s : Settings) : Type 0 where
@@ -199,7 +199,7 @@ key_length_lem a place l h =
 
 -- What a well-formed unit's owner, sound and protection say of the rest
 module _ {u : TagUnit} (l : Lines u) where
-  pub owner_held_lem : (place : ℕ) → u.accounts.owner ≡ Owner.Place place → place < u.accounts.count
+  pub owner_held_lem : (place : ℕ) → u.accounts.owner ≡ Some place → place < u.accounts.count
   unfolding owner_legal
   owner_held_lem place e = ltb-true place u.accounts.count (rw e at l.owner)
 

@@ -1,5 +1,5 @@
 -- The unit with one thing changed, and the one form of each absent thing.
-use Rattle.std.specs.Prelude.{ℕ, Bool, true, false, List, replicate, pos}
+use Rattle.std.specs.Prelude.{ℕ, Bool, true, false, List, replicate, pos, None}
 use Rattle.sizes.specs.Sizes.{nonce_size, keys_room, identity_key_size}
 use Rattle.nonces.specs.Nonces.{no_nonces, spent_nonces}
 use Rattle.unit.specs.declared.TagUnit.{TagUnit}
@@ -7,14 +7,14 @@ use Rattle.unit.specs.declared.Settings.{Settings}
 use Rattle.unit.specs.declared.Clock.{Clock}
 use Rattle.nonces.specs.declared.Nonces.{Nonces}
 use Rattle.unit.specs.declared.Accounts.{Accounts}
-use Rattle.unit.specs.declared.Owner.{Owner}
+use Rattle.unit.specs.Types.{Owner}
 use Rattle.unit.specs.declared.Identity.{Identity}
 use Rattle.unit.specs.declared.Sound.{Sound}
 use Rattle.unit.specs.declared.Protection.{Protection}
 
 -- What is absent has zeros in its room
 abbrev pub no_accounts : Accounts
-no_accounts = record { count = 0; owner = Owner.Nobody; keys = replicate keys_room 0 }
+no_accounts = record { count = 0; owner = None; keys = replicate keys_room 0 }
 
 abbrev pub no_identity : Identity
 no_identity = record { held = false; bytes = replicate identity_key_size 0 }

@@ -1,3 +1,4 @@
+pub mod Types
 pub mod Ringable
 pub mod Refusals
 pub mod Change

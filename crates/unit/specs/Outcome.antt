@@ -6,7 +6,7 @@ use Rattle.sizes.specs.Sizes.{answer_room}
 use Rattle.unit.specs.Refusals.{end_of, ending}
 use Rattle.unit.specs.WellFormed.{well_formed}
 use Rattle.unit.specs.declared.TagUnit.{TagUnit}
-use Rattle.unit.specs.declared.Reply.{Reply}
+use Rattle.unit.specs.Types.{Reply}
 
 pub record Outcome : Type 0 where
   pub unit : TagUnit

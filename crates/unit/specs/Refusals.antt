@@ -1,10 +1,9 @@
 -- "The refusal list": the number of each refusal, and how the end of a call is read.
-use Rattle.std.specs.Prelude.{ℕ, length}
+use Rattle.std.specs.Prelude.{ℕ, length, Ok, Err}
 use Rattle.laws.specs.Answer.{Result, gives, refuses}
 use Rattle.unit.specs.declared.Refusal.{Refusal}
 use Rattle.unit.specs.declared.Refusal.TheVariants.{NotAuthenticated, InvalidValue, NoConsent, OutOfRange, NotWellFormed, WrongNonce, WrongAccountKey, NoFrame, NoRoom}
-use Rattle.unit.specs.declared.Reply.{Reply}
-use Rattle.unit.specs.declared.Reply.TheVariants.{Done, Refused}
+use Rattle.unit.specs.Types.{Reply}
 
 -- The number of each case of the code's enum. The definitions of the calls say the paper's number themselves, at each place where it is
 -- given; every promise holds the two against each other
@@ -25,8 +24,8 @@ pub data End : Type 0 where
   refused : ℕ → End
 
 abbrev pub end_of : Reply → End
-end_of (Done n) = wrote n
-end_of (Refused r) = refused (refusal_number r)
+end_of (Ok n) = wrote n
+end_of (Err r) = refused (refusal_number r)
 
 abbrev pub ending : Result → End
 ending (gives answer) = wrote (length answer)

@@ -1,5 +1,5 @@
 -- "What a unit holds": exactly the lines that make a record well formed.
-use Rattle.std.specs.Prelude.{ℕ, ◌*◌, Bool, true, false, not, ◌&&◌, ◌||◌, List, [], leb, ltb, eqb, length, get_or, drop, ℤ, pos, negsuc}
+use Rattle.std.specs.Prelude.{ℕ, ◌*◌, Bool, true, false, not, ◌&&◌, ◌||◌, List, [], leb, ltb, eqb, length, get_or, drop, ℤ, pos, negsuc, Some, None}
 use Rattle.std.proofs.Math.Option.{Option, some, none}
 use Rattle.laws.specs.Bytes.{all_zero}
 use Rattle.sizes.specs.Sizes.{account_key_size, most_keys, keys_room, most_components, highest_volume, highest_battery, longest_ring, full_consent}
@@ -10,7 +10,7 @@ use Rattle.unit.specs.Change.{keyed}
 use Rattle.unit.specs.declared.TagUnit.{TagUnit}
 use Rattle.unit.specs.declared.Settings.{Settings}
 use Rattle.unit.specs.declared.Accounts.{Accounts}
-use Rattle.unit.specs.declared.Owner.{Owner}
+use Rattle.unit.specs.Types.{Owner}
 use Rattle.unit.specs.declared.Identity.{Identity}
 use Rattle.unit.specs.declared.Sound.{Sound}
 use Rattle.unit.specs.declared.Protection.{Protection}
@@ -35,20 +35,20 @@ accounts_legal a =
 
 -- perhaps an owner among them
 abbrev pub place_legal : Owner → ℕ → Bool
-place_legal Owner.Nobody count = true
-place_legal (Owner.Place p) count = ltb p count
+place_legal None count = true
+place_legal (Some p) count = ltb p count
 
 unfoldable pub owner_legal : Accounts → Bool
 owner_legal a = place_legal a.owner a.count
 
 abbrev pub owned : Owner → Bool
-owned Owner.Nobody = false
-owned (Owner.Place p) = true
+owned None = false
+owned (Some p) = true
 
 -- the owner's key, if there is an owner: what the rules speak of
 abbrev pub row_of : Owner → List (List ℕ) → Option (List ℕ)
-row_of Owner.Nobody keys = none
-row_of (Owner.Place p) keys = some (get_or keys p [])
+row_of None keys = none
+row_of (Some p) keys = some (get_or keys p [])
 
 unfoldable pub owner_key : Accounts → Option (List ℕ)
 owner_key a = row_of a.owner (held_keys a)

@@ -10,6 +10,7 @@ pub mod end;
 pub mod mask;
 
 // Calibrated power in dBm at 0 m, the number of components that can ring, and whether the volume is selectable (0 or 1).
+// Kept: any byte may stand in a record as `selectable`, so it is no bool.
 #[derive(Clone, Copy)]
 pub struct Settings {
     pub power: i32,
@@ -24,22 +25,17 @@ pub struct Clock {
     pub tenth: u8,
 }
 
-// The owner's place among the account keys.
-#[derive(Clone, Copy)]
-pub enum Owner {
-    Nobody,
-    Place(usize),
-}
-
-// The account keys in order of use, the most recent first, a table of which the first `count` rows are held, and the owner among them.
+// The account keys in order of use, the most recent first, a table of which the first `count` rows are held, and the owner's place among them.
+// Kept: no heap, fixed memory: the record's room of ten keys with their count; a record may also hold bytes behind it, which are refused.
 #[derive(Clone, Copy)]
 pub struct Accounts {
     pub count: usize,
-    pub owner: Owner,
+    pub owner: Option<usize>,
     pub keys: [u8; KEYS_ROOM],
 }
 
 // An identity key (ephemeral identity key), if there is one.
+// Kept: any record may be handed in, also one with bytes where no key is held, which `well_formed` judges; an Option could not hold those bytes.
 #[derive(Clone, Copy)]
 pub struct Identity {
     pub held: bool,
@@ -47,6 +43,7 @@ pub struct Identity {
 }
 
 // Silent, or ringing the components of a mask at a volume, with the tenths left.
+// Kept: the paper's form of the sound, an enum with a ringing case that holds its numbers.
 #[derive(Clone, Copy)]
 pub enum Sound {
     Silent,
@@ -54,6 +51,7 @@ pub enum Sound {
 }
 
 // Unwanted tracking protection: off, or on with the flag that lets a ring skip authentication.
+// Kept: no plainer as Option<bool>, which would hide what the flag says.
 #[derive(Clone, Copy)]
 pub enum Protection {
     Off,
@@ -95,16 +93,10 @@ pub enum Refusal {
     NoRoom,
 }
 
-// The end of a call: how many answer bytes it wrote, or its refusal.
-#[derive(Clone, Copy)]
-pub enum Reply {
-    Done(usize),
-    Refused(Refusal),
-}
-
-// The unit after a call, and the call's end.
+// The unit after a call, and the call's end: how many answer bytes it wrote, or its refusal. A refused write changes the unit too, so the unit
+// stands beside the end.
 #[derive(Clone, Copy)]
 pub struct Step {
     pub unit: TagUnit,
-    pub reply: Reply,
+    pub reply: Result<usize, Refusal>,
 }

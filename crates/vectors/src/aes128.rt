@@ -1,5 +1,7 @@
 // AES-128, both ways. Sources: NIST, FIPS 197, appendices B and C.1; SP 800-38A, F.1.1; AESAVS, the four known answer tests for keys of 128 bits,
 // whole. The expected values of its VarTxt and VarKey were written by OpenSSL.
+ghost use Rattle.std.specs.Prelude.{◌≤◌};
+
 use crate::print;
 use std::io;
 
@@ -17,15 +19,15 @@ fn there_and_back(rt: &impl Print, key: &[u8], block: &[u8]) -> io::Result<()> {
     print::text(rt, b"\n")
 }
 
-// The i-th sixteen of a sequence of bytes, which begins again where it ends: one sixteen alone is each of them.
-pub fn sixteen(bytes: &[u8], i: u8) -> [u8; 16] {
-    let mut out = [0u8; 16];
-    let mut j = 0;
-    while j < 16 {
-        if 0 < bytes.len() {
-            out[j] = bytes[(16 * i as usize + j) % bytes.len()];
+// The i-th N bytes of a sequence, which begins again where it ends: N bytes alone are each of them.
+pub fn part<const N: usize>(bytes: &[u8], i: u8) -> [u8; N]
+    requires { N ≤ 32 }
+{
+    let mut out = [0u8; N];
+    if !bytes.is_empty() {
+        for j in 0..N {
+            out[j] = bytes[(N * i as usize + j) % bytes.len()];
         }
-        j += 1;
     }
     out
 }
@@ -33,10 +35,8 @@ pub fn sixteen(bytes: &[u8], i: u8) -> [u8; 16] {
 // Each pair of a key and a block.
 fn pairs(rt: &impl Print, name: &[u8], count: u8, keys: &[u8], blocks: &[u8]) -> io::Result<()> {
     print::text(rt, name)?;
-    let mut i = 0;
-    while i < count {
-        there_and_back(rt, &sixteen(keys, i), &sixteen(blocks, i))?;
-        i += 1;
+    for i in 0..count {
+        there_and_back(rt, &part::<16>(keys, i), &part::<16>(blocks, i))?;
     }
     Ok(())
 }
@@ -59,10 +59,8 @@ pub fn byte_of_ones(ones: usize, j: usize) -> u8 {
 // The blocks of 1 to 128 ones and then zeros, one after another.
 pub fn leading_ones() -> [u8; 2048] {
     let mut blocks = [0u8; 2048];
-    let mut k = 0;
-    while k < 2048 {
+    for k in 0..2048 {
         blocks[k] = byte_of_ones(k / 16 + 1, k % 16);
-        k += 1;
     }
     blocks
 }

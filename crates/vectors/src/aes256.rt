@@ -11,26 +11,11 @@ fn there(rt: &impl Print, key: [u8; 32], block: [u8; 16]) -> io::Result<()> {
     print::text(rt, b"\n")
 }
 
-// The i-th key of a sequence of bytes, which begins again where it ends.
-fn key_at(bytes: &[u8], i: u8) -> [u8; 32] {
-    let mut out = [0u8; 32];
-    let mut j = 0;
-    while j < 32 {
-        if 0 < bytes.len() {
-            out[j] = bytes[(32 * i as usize + j) % bytes.len()];
-        }
-        j += 1;
-    }
-    out
-}
-
 // Each pair of a key and a block.
 fn pairs(rt: &impl Print, name: &[u8], count: u8, keys: &[u8], blocks: &[u8]) -> io::Result<()> {
     print::text(rt, name)?;
-    let mut i = 0;
-    while i < count {
-        there(rt, key_at(keys, i), aes128::sixteen(blocks, i))?;
-        i += 1;
+    for i in 0..count {
+        there(rt, aes128::part(keys, i), aes128::part(blocks, i))?;
     }
     Ok(())
 }
@@ -38,10 +23,8 @@ fn pairs(rt: &impl Print, name: &[u8], count: u8, keys: &[u8], blocks: &[u8]) ->
 // The key that begins with as many ones and goes on with zeros.
 fn leading_ones(ones: usize) -> [u8; 32] {
     let mut key = [0u8; 32];
-    let mut j = 0;
-    while j < 32 {
+    for j in 0..32 {
         key[j] = aes128::byte_of_ones(ones, j);
-        j += 1;
     }
     key
 }
@@ -49,10 +32,8 @@ fn leading_ones(ones: usize) -> [u8; 32] {
 // A block of zeros under each key of 1 to 256 ones and then zeros.
 fn keys_of_ones(rt: &impl Print) -> io::Result<()> {
     print::text(rt, b"AESAVS VarKey\n")?;
-    let mut ones: usize = 1;
-    while ones <= 256 {
+    for ones in 1..=256 {
         there(rt, leading_ones(ones), [0u8; 16])?;
-        ones += 1;
     }
     Ok(())
 }

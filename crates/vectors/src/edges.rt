@@ -2,7 +2,7 @@
 // refusal 7, and the answer after the call: ee where nothing was written. Key and message are the first bytes of one sequence. compare/vectors.py
 // has the answers from hashlib, hmac and OpenSSL.
 use crate::print;
-use lent_answer::Ending;
+use lent_answer::WrongSize;
 use std::io;
 
 // What an exported call gives for a refusal, beside its number.
@@ -20,10 +20,8 @@ enum Call {
 // The sequence: 0 to 250, and so on from 0.
 fn sequence() -> [u8; 65536] {
     let mut bytes = [0u8; 65536];
-    let mut i: usize = 0;
-    while i < 65536 {
+    for i in 0..65536 {
         bytes[i] = (i % 251) as u8;
-        i += 1;
     }
     bytes
 }
@@ -60,10 +58,10 @@ fn ending(rt: &impl Print, code: u64, answer: &[u8]) -> io::Result<()> {
 }
 
 // The same of the call over parts, which is not exported: its end as a number.
-fn code_of(end: Ending) -> u64 {
+fn code_of(end: Result<(), WrongSize>) -> u64 {
     match end {
-        Ending::Done => 32,
-        Ending::WrongSize => REFUSED + 7,
+        Ok(()) => 32,
+        Err(WrongSize) => REFUSED + 7,
     }
 }
 
@@ -196,10 +194,8 @@ fn blocks_under_long_keys(rt: &impl Print, bytes: &[u8]) -> io::Result<()> {
 
 // The sizes of SHAVS' long messages.
 fn long_messages(rt: &impl Print, bytes: &[u8]) -> io::Result<()> {
-    let mut i = 1;
-    while i <= 64 {
+    for i in 1..=64 {
         row(rt, bytes, Call::Hash, 0, 64 + 99 * i, 32)?;
-        i += 1;
     }
     Ok(())
 }

@@ -6,16 +6,14 @@ use std::io;
 
 // The digests of messages of some sizes, each a byte longer than the one before it, that stand one after the other. Prints the sizes too.
 fn messages(rt: &impl Print, least: u8, until: u8, bytes: &[u8]) -> io::Result<()> {
-    let mut start = 0;
-    let mut size = least;
-    while size < until {
-        let end = start + size as usize;
-        if end <= bytes.len() {
-            print::number(rt, size as u32)?;
-            hashes(rt, b"", &bytes[start..end])?;
-        }
-        start = end;
-        size += 1;
+    let mut rest = bytes;
+    for size in least..until {
+        let Some((message, others)) = rest.split_at_checked(size as usize) else {
+            break;
+        };
+        print::number(rt, size as u32)?;
+        hashes(rt, b"", message)?;
+        rest = others;
     }
     Ok(())
 }
@@ -60,13 +58,8 @@ fn long_message(rt: &impl Print) -> io::Result<()> {
 // The three last digests of a chain, and a new one behind them.
 fn behind(three: [u8; 96], digest: [u8; 32]) -> [u8; 96] {
     let mut next = [0u8; 96];
-    let mut i = 0;
-    while i < 32 {
-        next[i] = three[i + 32];
-        next[i + 32] = three[i + 64];
-        next[i + 64] = digest[i];
-        i += 1;
-    }
+    next[..64].copy_from_slice(&three[32..]);
+    next[64..].copy_from_slice(&digest);
     next
 }
 
@@ -82,13 +75,11 @@ fn chained(seed: [u8; 32]) -> [u8; 32] {
     let second = behind(first, seed);
     let mut three = behind(second, seed);
     let mut digest = seed;
-    let mut left: u32 = 1000;
-    while 0 < left {
+    for _ in 0..1000 {
         let next = digest_of(three);
         let last = behind(three, next);
         digest = next;
         three = last;
-        left -= 1;
     }
     digest
 }
@@ -105,12 +96,10 @@ fn monte_carlo(rt: &impl Print) -> io::Result<()> {
     )?;
     let mut seed =
         *b"\x6d\x1e\x72\xad\x03\xdd\xeb\x5d\xe8\x91\xe5\x72\xe2\x39\x6f\x8d\xa0\x15\xd8\x99\xef\x0e\x79\x50\x31\x52\xd6\x01\x0a\x3f\xe6\x91";
-    let mut left: u32 = 100;
-    while 0 < left {
+    for _ in 0..100 {
         let last = chained(seed);
         checkpoint(rt, last)?;
         seed = last;
-        left -= 1;
     }
     Ok(())
 }

@@ -8,23 +8,19 @@ use sizes::{
     ACCOUNT_KEY_SIZE, FULL_CONSENT, HIGHEST_BATTERY, HIGHEST_VOLUME, LONGEST_RING, MOST_COMPONENTS,
     MOST_KEYS, NONCE_SIZE,
 };
-use unit::{Accounts, Identity, Owner, Protection, Settings, Sound, TagUnit, mask};
+use unit::{Accounts, Identity, Protection, Settings, Sound, TagUnit, mask};
 
 // Calibrated power from -100 to 20 dBm.
 pub fn power_legal(power: i32) -> bool
     ensures { result ≡ power_legal power }
 {
-    if power < -100 {
-        return false;
-    }
-    power <= 20
+    -100 <= power && power <= 20
 }
 
 pub fn settings_legal(s: Settings) -> bool
     ensures { result ≡ settings_legal s }
 {
-    let power = s.power;
-    if !power_legal(power) {
+    if !power_legal(s.power) {
         return false;
     }
     if MOST_COMPONENTS < s.components {
@@ -36,62 +32,45 @@ pub fn settings_legal(s: Settings) -> bool
 fn accounts_legal(a: Accounts) -> bool
     ensures { result ≡ accounts_legal a }
 {
-    let count = a.count;
-    if MOST_KEYS < count {
+    if MOST_KEYS < a.count {
         return false;
     }
     let keys = a.keys;
-    if !tables::distinct(&keys, ACCOUNT_KEY_SIZE, count) {
-        return false;
-    }
-    let spare = count * ACCOUNT_KEY_SIZE;
-    octets::all_zero(&keys[spare..])
+    tables::distinct(&keys, ACCOUNT_KEY_SIZE, a.count)
+        && octets::all_zero(&keys[a.count * ACCOUNT_KEY_SIZE..])
 }
 
 fn owner_legal(a: Accounts) -> bool
     ensures { result ≡ owner_legal a }
 {
-    let owner = a.owner;
-    match owner {
-        Owner::Nobody => true,
-        Owner::Place(place) => place < a.count,
+    match a.owner {
+        None => true,
+        Some(place) => place < a.count,
     }
 }
 
-fn identity_legal(k: Identity, owner: Owner) -> bool
+fn identity_legal(k: Identity, owner: Option<usize>) -> bool
     ensures { result ≡ identity_legal k owner }
 {
     if k.held {
-        return match owner {
-            Owner::Nobody => false,
-            Owner::Place(_) => true,
-        };
+        owner.is_some()
+    } else {
+        octets::all_zero(&k.bytes)
     }
-    let key = k.bytes;
-    octets::all_zero(&key)
 }
 
 // The key in force and the one that waits.
-fn identities_legal(identity: Identity, waiting: Identity, owner: Owner) -> bool
+fn identities_legal(identity: Identity, waiting: Identity, owner: Option<usize>) -> bool
     ensures { result ≡ (identity_legal identity owner && identity_legal waiting owner) }
 {
-    if identity_legal(identity, owner) {
-        return identity_legal(waiting, owner);
-    }
-    false
+    identity_legal(identity, owner) && identity_legal(waiting, owner)
 }
 
 // A volume of at most 3, and 0 where it is not selectable.
 fn volume_legal(volume: u8, selectable: u8) -> bool
     ensures { result ≡ (leb volume highest_volume && (not (eqb selectable 0) || eqb volume 0)) }
 {
-    if HIGHEST_VOLUME < volume {
-        return false;
-    }
-    if selectable == 0 {
-        return volume == 0;
-    }
-    true
+    volume <= HIGHEST_VOLUME && (selectable != 0 || volume == 0)
 }
 
 fn sound_legal(sound: Sound, ring_nonce: [u8; NONCE_SIZE], s: Settings, keyed: bool) -> bool
@@ -113,10 +92,7 @@ fn sound_legal(sound: Sound, ring_nonce: [u8; NONCE_SIZE], s: Settings, keyed: b
             if !volume_legal(volume, s.selectable) {
                 return false;
             }
-            if left == 0 {
-                return false;
-            }
-            left <= LONGEST_RING
+            0 < left && left <= LONGEST_RING
         }
     }
 }
@@ -126,7 +102,7 @@ fn protection_legal(protection: Protection, keyed: bool) -> bool
 {
     match protection {
         Protection::Off => true,
-        Protection::On { skip: _ } => keyed,
+        Protection::On { .. } => keyed,
     }
 }
 
@@ -134,49 +110,34 @@ fn protection_legal(protection: Protection, keyed: bool) -> bool
 fn numbers_legal(tenth: u8, consent: u16, battery: u8) -> bool
     ensures { result ≡ (leb tenth 9 && (leb consent full_consent && leb battery highest_battery)) }
 {
-    if 9 < tenth {
-        return false;
-    }
-    if FULL_CONSENT < consent {
-        return false;
-    }
-    battery <= HIGHEST_BATTERY
+    tenth <= 9 && consent <= FULL_CONSENT && battery <= HIGHEST_BATTERY
 }
 
 // Whether a record is well formed; any record at all is judged.
 pub fn well_formed(u: TagUnit) -> bool
     ensures { result ≡ well_formed u }
 {
-    let settings = u.settings;
-    if !settings_legal(settings) {
+    if !settings_legal(u.settings) {
         return false;
     }
     if !numbers_legal(u.clock.tenth, u.consent, u.battery) {
         return false;
     }
-    let accounts = u.accounts;
-    if !accounts_legal(accounts) {
+    if !accounts_legal(u.accounts) {
         return false;
     }
-    if !owner_legal(accounts) {
+    if !owner_legal(u.accounts) {
         return false;
     }
-    let identity = u.identity;
-    let owner = accounts.owner;
-    let waiting = u.waiting;
-    if !identities_legal(identity, waiting, owner) {
+    if !identities_legal(u.identity, u.waiting, u.accounts.owner) {
         return false;
     }
-    let nonces = u.nonces;
-    if !nonces::legal(nonces) {
+    if !nonces::legal(u.nonces) {
         return false;
     }
-    let keyed = identity.held;
-    let sound = u.sound;
-    let ring_nonce = u.ring_nonce;
-    if !sound_legal(sound, ring_nonce, settings, keyed) {
+    let keyed = u.identity.held;
+    if !sound_legal(u.sound, u.ring_nonce, u.settings, keyed) {
         return false;
     }
-    let protection = u.protection;
-    protection_legal(protection, keyed)
+    protection_legal(u.protection, keyed)
 }

@@ -8,6 +8,7 @@ use primitives::Keyed;
 use sizes::{DIGEST_SIZE, IDENTITY_KEY_SIZE, NONCE_SIZE, TAG_SIZE};
 
 // The bytes that the recovery, ring and protection keys are made with.
+// Kept: what may not change: `derived_key` promises a key of every byte, which an enum would narrow; these are bytes that are hashed.
 pub const RECOVERY: u8 = 1;
 
 pub const RING: u8 = 2;
@@ -25,7 +26,7 @@ const COVERED_SIZE: usize = ID_AT + 2;
 fn first_bytes(d: [u8; DIGEST_SIZE]) -> [u8; TAG_SIZE]
     ensures { result ≡ first_bytes d }
 {
-    octets::eight(&d[..TAG_SIZE])
+    octets::array(&d[..TAG_SIZE])
 }
 
 // The recovery, ring or protection key.

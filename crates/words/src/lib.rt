@@ -9,41 +9,25 @@ ghost use Rattle.words.specs.Words.{bytes_of};
 pub fn word_of(a: u8, b: u8, c: u8, d: u8) -> u32
     ensures { result ≡ number (a ∷ b ∷ c ∷ d ∷ []) }
 {
-    a as u32 * 16777216 + b as u32 * 65536 + c as u32 * 256 + d as u32
+    u32::from_be_bytes([a, b, c, d])
 }
 
 // The four bytes of a word.
 pub fn bytes_of(w: u32) -> [u8; 4]
     ensures { result ≡ big_endian 4 w }
 {
-    [
-        ((w / 16777216) % 256) as u8,
-        ((w / 65536) % 256) as u8,
-        ((w / 256) % 256) as u8,
-        (w % 256) as u8,
-    ]
+    w.to_be_bytes()
 }
 
 // The state whose columns are four words.
 pub fn state_of(a: u32, b: u32, c: u32, d: u32) -> [u8; 16]
     ensures { result ≡ bytes_of (a ∷ b ∷ c ∷ d ∷ []) }
 {
+    let [a0, a1, a2, a3] = a.to_be_bytes();
+    let [b0, b1, b2, b3] = b.to_be_bytes();
+    let [c0, c1, c2, c3] = c.to_be_bytes();
+    let [d0, d1, d2, d3] = d.to_be_bytes();
     [
-        ((a / 16777216) % 256) as u8,
-        ((a / 65536) % 256) as u8,
-        ((a / 256) % 256) as u8,
-        (a % 256) as u8,
-        ((b / 16777216) % 256) as u8,
-        ((b / 65536) % 256) as u8,
-        ((b / 256) % 256) as u8,
-        (b % 256) as u8,
-        ((c / 16777216) % 256) as u8,
-        ((c / 65536) % 256) as u8,
-        ((c / 256) % 256) as u8,
-        (c % 256) as u8,
-        ((d / 16777216) % 256) as u8,
-        ((d / 65536) % 256) as u8,
-        ((d / 256) % 256) as u8,
-        (d % 256) as u8,
+        a0, a1, a2, a3, b0, b1, b2, b3, c0, c1, c2, c3, d0, d1, d2, d3,
     ]
 }

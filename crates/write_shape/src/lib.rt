@@ -28,6 +28,6 @@ pub fn head_of(w: &[u8]) -> Head
     Head {
         id: w[0],
         size: w[1],
-        tag: octets::eight(&w[2..HEAD_SIZE]),
+        tag: octets::array(&w[2..HEAD_SIZE]),
     }
 }

@@ -12,10 +12,10 @@ row-requires c =
     let l = accounts_lines c.args.a c.requires.0 in
     (omega (arith, held_count c.args.a, c.requires.1), omega (arith, l.room, l.count))
 
-pub sixteen-key-requires : goal.sixteen-key-requires
+pub array-key-requires : goal.array-key-requires
 unfolding held_keys
-sixteen-key-requires c =
-    ap length c.row.ensures ∙ key_length_lem c.args.a c.args.place (accounts_lines c.args.a c.requires.0) c.requires.1
+array-key-requires c =
+    (omega arith, ap length c.row.ensures ∙ key_length_lem c.args.a c.args.place (accounts_lines c.args.a c.requires.0) c.requires.1)
 
 pub followed-requires : goal.followed-requires
 followed-requires c =
@@ -32,4 +32,4 @@ unfolding held_keys
 returns c =
     let l = accounts_lines c.args.a c.requires.0 in
     let here = used_place c.args.a l c.args.place (omega (arith, held_count c.args.a, c.requires.1)) in
-    rw (here, c.followed.ensures, c.key_first.ensures, c.sixteen-key.ensures, c.row.ensures)
+    rw (here, c.followed.ensures, c.key_first.ensures, c.array-key.ensures, c.row.ensures)

@@ -1,17 +1,13 @@
--- `answering::conclude` meets its contract, a ruling each.
-use mathlib.Core.Path.{◌∙◌}
+-- `answering::conclude` meets its contract: what is granted is signed and written, and what is denied is refused.
 use Rattle.authentication.proofs.Judged.{refusal, acceptance, denied_so, granted_so}
 use Rattle.answering.proofs.conclude.Goals as goal
 
-pub returns-in-Denied : goal.returns-in-Denied
-returns-in-Denied c = λ u j n p.
-    let known = c.args in
-    let so = denied_so p c.in-Denied.is in
-    refusal u j c.refuse.result c.in-Denied.refusal known.answer.now (c.refuse.ensures.0 ∙ so.unit_is, c.refuse.ensures.1)
-    so.refuses_so
+pub returns-in-Ok : goal.returns-in-Ok
+returns-in-Ok c = λ j p.
+    let u = c.args.u in
+    let so = granted_so p c.in-Ok.is in
+    acceptance u j c.accept.result c.accept.ensures (c.sign-count.ensures so.key so.key_is) so.accepts_so
 
-pub returns-in-Granted : goal.returns-in-Granted
-returns-in-Granted c = λ u j n p.
-    let so = granted_so p c.in-Granted.is in
-    acceptance u j c.accept.result c.accept.ensures (c.write_signed-count.ensures so.key so.key_is)
-    (rw n so.accepts_so)
+pub returns-in-Err : goal.returns-in-Err
+returns-in-Err c = λ j p.
+    refusal c.args.u j c.refuse.result c.in-Err.refusal c.args.answer.now c.refuse.ensures (denied_so p c.in-Err.is)

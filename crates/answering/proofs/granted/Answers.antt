@@ -8,7 +8,6 @@ pub returns : goal.returns
 returns c =
     record {
       unit_is = refl;
-      ruling_is = refl;
+      key_is = refl;
       data_are = ap (take (length c.args.«data».now)) c.put.ensures ∙ take_at c.args.«data».now _ _ refl;
-      data_fit = c.requires;
     }

@@ -7,5 +7,5 @@ use Rattle.cipher.proofs.decrypt.Goals as goal
 pub returns : goal.returns
 unfolding InvAES128 KeyExpansion
 returns c =
-    let schedule = c.expand in
-    c.inv_cipher.ensures schedule.new.w c.unmix_keys.ensures ∙ rw schedule.ensures
+    let schedule = c.schedule-keys in
+    c.inv_cipher.ensures schedule.result c.unmix_keys.ensures ∙ rw schedule.ensures

@@ -7,8 +7,8 @@ use Rattle.cipher.proofs.decrypt_pair.Goals as goal
 pub returns : goal.returns
 unfolding InvAES128 KeyExpansion
 returns c =
-    let schedule = c.expand in
+    let schedule = c.schedule-keys in
     let keys = c.unmix_keys.ensures in (
-      c.inv_cipher-one.ensures schedule.new.w keys ∙ rw schedule.ensures,
-      c.inv_cipher-two.ensures schedule.new.w keys ∙ rw schedule.ensures,
+      c.inv_cipher.ensures schedule.result keys ∙ rw schedule.ensures,
+      c.inv_cipher-2.ensures schedule.result keys ∙ rw schedule.ensures,
     )

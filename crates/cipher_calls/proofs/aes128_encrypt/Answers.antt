@@ -1,30 +1,35 @@
--- `aes128_encrypt` meets its contract: a size that a test found wrong refuses, and the block is given.
+-- `aes128_encrypt` meets its contract: a size that is wrong refuses, and the block is given.
 use mathlib.Core.Path.{ap₂, ◌∙◌}
-use native.Mathlib.Omega.{arith}
 use borrow.Author.Rules.{rules}
 use Rattle.primitives.specs.Standards.{AES128}
 use Rattle.cipher_calls.specs.Calls.{encrypted}
 use Rattle.cipher_calls.proofs.Answered.{block_refused, block_given}
 use Rattle.cipher_calls.proofs.aes128_encrypt.Goals as goal
 
-pub returns-then-key-ne-BLOCK : goal.returns-then-key-ne-BLOCK
+pub returns-in_err-try_into : goal.returns-in_err-try_into
 unfolding encrypted
-returns-then-key-ne-BLOCK c =
+returns-in_err-try_into c =
     let a = c.args in
-    block_refused 16 a.key.now a.block.now (AES128 a.key.now a.block.now) a.answer.now (λ k b. omega arith)
+    let refused = c.from_residual in
+    block_refused 16 a.key.now a.block.now (AES128 a.key.now a.block.now) a.answer.now refused.result refused.ensures.0
+    (λ k b. c.in_err-try_into.ensures.1 k)
 
-pub returns-then-block-ne-BLOCK : goal.returns-then-block-ne-BLOCK
+pub returns-in_err-try_into-2 : goal.returns-in_err-try_into-2
 unfolding encrypted
-returns-then-block-ne-BLOCK c =
+returns-in_err-try_into-2 c =
     let a = c.args in
-    block_refused 16 a.key.now a.block.now (AES128 a.key.now a.block.now) a.answer.now (λ k b. omega arith)
+    let refused = c.from_residual-in_err-try_into-2 in
+    block_refused 16 a.key.now a.block.now (AES128 a.key.now a.block.now) a.answer.now refused.result refused.ensures.0
+    (λ k b. c.in_err-try_into-2.ensures.1 b)
 
 pub returns : goal.returns
 unfolding encrypted
 returns c =
     let a = c.args in
     let done = c.encrypt-done in
+    let key = c.in_ok-try_into.ensures.1 in
+    let block = c.in_ok-try_into-2.ensures.1 in
     block_given 16 a.key.now a.block.now (AES128 a.key.now a.block.now) a.answer.now done.result
-    c.give.new.answer c.give.result (omega arith) (omega arith) (search rules)
-    (done.ensures ∙ ap₂ AES128 c.sixteen.ensures c.sixteen-2.ensures)
+    c.give.new.answer c.give.result key.long block.long (search rules)
+    (done.ensures ∙ ap₂ AES128 key.same block.same)
     c.give.ensures

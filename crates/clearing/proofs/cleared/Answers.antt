@@ -4,4 +4,4 @@ use Rattle.clearing.proofs.cleared.Goals as goal
 
 pub returns : goal.returns
 unfolding cleared
-returns c = rw c.fresh-after.ensures
+returns c = rw c.fresh.ensures

@@ -13,18 +13,18 @@ returns-then-parts-lt-PARTS_SIZE c =
 
 pub wrong_byte-requires : goal.wrong_byte-requires
 wrong_byte-requires c =
-    wrong_small c.args.text.now c.read-scanned.result c.read-scanned.ensures _ c.in-WrongByte.is
+    wrong_small c.args.text.now c.read.result c.read.ensures _ c.in-Err.is
 
-pub returns-in-WrongByte : goal.returns-in-WrongByte
-returns-in-WrongByte c =
+pub returns-in-Err : goal.returns-in-Err
+returns-in-Err c =
     rw c.wrong_byte.ensures
     (exports_refusal 23 (length c.args.parts.now) c.if-parts-lt-PARTS_SIZE.false c.args.parts.now c.args.parts.now part_bytes
     (read_frame 20 c.args.text.now) 8 _
-    (wrong_read c.args.text.now c.read-scanned.result c.read-scanned.ensures _ c.in-WrongByte.is) refl)
+    (wrong_read c.args.text.now c.read.result c.read.ensures _ c.in-Err.is) refl)
 
-pub returns-in-Frame : goal.returns-in-Frame
-returns-in-Frame c =
+pub returns-in-Ok : goal.returns-in-Ok
+returns-in-Ok c =
     exports_bytes 23 (length c.args.parts.now) c.if-parts-lt-PARTS_SIZE.false c.args.parts.now _ part_bytes
     (read_frame 20 c.args.text.now) _ 23
-    (frame_read c.args.text.now c.read-scanned.result c.read-scanned.ensures _ _ c.in-Frame.is)
+    (frame_read c.args.text.now c.read.result c.read.ensures _ c.in-Ok.is)
     c.put_parts.ensures

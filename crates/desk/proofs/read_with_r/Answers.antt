@@ -1,6 +1,7 @@
 -- `desk::read_with_r` meets its contract: as `desk::read`, with the battery level behind the parts.
 use mathlib.Core.Path.{refl}
 use native.Mathlib.Omega.{arith}
+use borrow.Author.Rules.{rules}
 use lib.ListN.{length}
 use Rattle.frame_opener.specs.Opener.{read_frame_with_r}
 use Rattle.frame_opener.proofs.Scanning.{wrong_read_with_r, wrong_size_read, frame_read_with_r, wrong_small_with_r}
@@ -14,25 +15,25 @@ returns-then-parts-lt-OPENED_SIZE c =
 
 pub wrong_byte-requires : goal.wrong_byte-requires
 wrong_byte-requires c =
-    wrong_small_with_r c.args.r.now c.args.text.now c.read_with_r-scanned.result c.read_with_r-scanned.ensures _ c.in-WrongByte.is
+    wrong_small_with_r c.args.r.now c.args.text.now c.read_with_r.result c.read_with_r.ensures _ (search rules)
 
-pub returns-in-WrongByte : goal.returns-in-WrongByte
-returns-in-WrongByte c =
+pub returns-in-Err-WrongByte : goal.returns-in-Err-WrongByte
+returns-in-Err-WrongByte c =
     rw c.wrong_byte.ensures
     (exports_refusal 24 (length c.args.parts.now) c.if-parts-lt-OPENED_SIZE.false c.args.parts.now c.args.parts.now opened_bytes
     (read_frame_with_r 20 c.args.r.now c.args.text.now) 8 _
-    (wrong_read_with_r c.args.r.now c.args.text.now c.read_with_r-scanned.result c.read_with_r-scanned.ensures _ c.in-WrongByte.is) refl)
+    (wrong_read_with_r c.args.r.now c.args.text.now c.read_with_r.result c.read_with_r.ensures _ (search rules)) refl)
 
-pub returns-in-WrongSize : goal.returns-in-WrongSize
-returns-in-WrongSize c =
+pub returns-in-Err-WrongSize : goal.returns-in-Err-WrongSize
+returns-in-Err-WrongSize c =
     exports_refusal 24 (length c.args.parts.now) c.if-parts-lt-OPENED_SIZE.false c.args.parts.now c.args.parts.now opened_bytes
     (read_frame_with_r 20 c.args.r.now c.args.text.now) 1 0
-    (wrong_size_read c.args.r.now c.args.text.now c.read_with_r-scanned.result c.read_with_r-scanned.ensures c.in-WrongSize.is) refl
+    (wrong_size_read c.args.r.now c.args.text.now c.read_with_r.result c.read_with_r.ensures (search rules)) refl
 
-pub returns-in-Frame : goal.returns-in-Frame
+pub returns-in-Ok : goal.returns-in-Ok
 unfolding opened_bytes
-returns-in-Frame c =
+returns-in-Ok c =
     exports_bytes 24 (length c.args.parts.now) c.if-parts-lt-OPENED_SIZE.false c.args.parts.now _ opened_bytes
     (read_frame_with_r 20 c.args.r.now c.args.text.now) _ 24
-    (frame_read_with_r c.args.r.now c.args.text.now c.read_with_r-scanned.result c.read_with_r-scanned.ensures _ _ _ c.in-Frame.is)
+    (frame_read_with_r c.args.r.now c.args.text.now c.read_with_r.result c.read_with_r.ensures _ c.in-Ok.is)
     (one_more _ c.args.parts.now _ 23 _ c.put_parts.ensures (omega (arith, c.if-parts-lt-OPENED_SIZE.false)))

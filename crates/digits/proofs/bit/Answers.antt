@@ -9,4 +9,4 @@ pub returns : goal.returns
 returns c =
     let a = c.args in
     ap (λ (k : ℕ). k / 2 ^ (a.i % 32) % 2 ^ 1) c.limb.ensures
-    ∙ digit a.t.now a.i (a.i / 32) (a.i % 32) 1 (λ k. (c.shared_slice_known-1.given k).fits) (omega arith) (omega arith)
+    ∙ digit a.t.now a.i (a.i / 32) (a.i % 32) 1 (λ k. (c.type_inv.t k).fits) (omega arith) (omega arith)

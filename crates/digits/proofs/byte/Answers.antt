@@ -9,4 +9,4 @@ pub returns : goal.returns
 returns c =
     let a = c.args in
     ap (λ (k : ℕ). k / 2 ^ (8 * (a.i % 4)) % 2 ^ 8) c.limb.ensures
-    ∙ digit a.t.now (8 * a.i) (a.i / 4) (8 * (a.i % 4)) 8 (λ k. (c.shared_slice_known-1.given k).fits) (omega arith) (omega arith)
+    ∙ digit a.t.now (8 * a.i) (a.i / 4) (8 * (a.i % 4)) 8 (λ k. (c.type_inv.t k).fits) (omega arith) (omega arith)

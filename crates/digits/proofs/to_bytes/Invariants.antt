@@ -1,5 +1,4 @@
 use mathlib.Core.Path.{◌≡◌}
-use Prim.Native.Nat.{◌-◌, ◌≤◌}
 use lib.ListN.{length, get_or}
 use Rattle.limbs.specs.Limbs.{value}
 use Rattle.laws.specs.Bytes.{big_endian}
@@ -7,8 +6,4 @@ use Rattle.laws.proofs.Tabulate.{filled_to}
 use Rattle.digits.proofs.to_bytes.Given as goal
 
 abbrev pub invariant-loop-i : goal.invariant-loop-i
-invariant-loop-i l =
-    (l.i ≤ length l.initial.out) × (length l.out ≡ length l.initial.out) × (l.out ≡ filled_to l.i (λ j. get_or (big_endian (length l.initial.out) (value l.t)) j 0) l.initial.out)
-
-abbrev pub decreases-loop-i : goal.decreases-loop-i
-decreases-loop-i l = length l.initial.out - l.i
+invariant-loop-i l = l.out ≡ filled_to l.i (λ j. get_or (big_endian (length l.initial.out) (value l.t)) j 0) l.initial.out

@@ -5,8 +5,8 @@ use Rattle.firmware.proofs.tag_account_key.Goals as goal
 
 pub finish-requires : goal.finish-requires
 finish-requires c =
-    completes_whole (account_key c.args.key.now) 0 c.args.bytes.now c.decode-unit.ensures c.account_key-step.ensures
+    completes_whole (account_key c.args.key.now) 0 c.args.bytes.now c.decode.ensures c.account_key-step.ensures
 
 pub returns : goal.returns
 returns c =
-    completes_exports (account_key c.args.key.now) 0 c.args.bytes.now c.decode-unit.ensures c.account_key-step.ensures c.finish.ensures
+    completes_exports (account_key c.args.key.now) 0 c.args.bytes.now c.decode.ensures c.account_key-step.ensures c.finish.ensures

@@ -5,8 +5,8 @@ use Rattle.firmware.proofs.tag_battery.Goals as goal
 
 pub finish-requires : goal.finish-requires
 finish-requires c =
-    completes_whole (battery c.args.level) 0 c.args.bytes.now c.decode-unit.ensures c.battery-step.ensures
+    completes_whole (battery c.args.level) 0 c.args.bytes.now c.decode.ensures c.battery-step.ensures
 
 pub returns : goal.returns
 returns c =
-    completes_exports (battery c.args.level) 0 c.args.bytes.now c.decode-unit.ensures c.battery-step.ensures c.finish.ensures
+    completes_exports (battery c.args.level) 0 c.args.bytes.now c.decode.ensures c.battery-step.ensures c.finish.ensures

@@ -6,8 +6,8 @@ use Rattle.firmware.proofs.tag_button.Goals as goal
 
 pub finish-requires : goal.finish-requires
 finish-requires c =
-    answers_whole button (length c.args.answer.now) c.args.bytes.now c.decode-unit.ensures c.button-step.ensures
+    answers_whole button (length c.args.answer.now) c.args.bytes.now c.decode.ensures c.button-step.ensures
 
 pub returns : goal.returns
 returns c =
-    answers_exports button (length c.args.answer.now) c.args.bytes.now c.decode-unit.ensures c.button-step.ensures c.finish.ensures
+    answers_exports button (length c.args.answer.now) c.args.bytes.now c.decode.ensures c.button-step.ensures c.finish.ensures

@@ -5,8 +5,8 @@ use Rattle.firmware.proofs.tag_disconnect.Goals as goal
 
 pub finish-requires : goal.finish-requires
 finish-requires c =
-    completes_whole disconnect 0 c.args.bytes.now c.decode-unit.ensures c.disconnect-step.ensures
+    completes_whole disconnect 0 c.args.bytes.now c.decode.ensures c.disconnect-step.ensures
 
 pub returns : goal.returns
 returns c =
-    completes_exports disconnect 0 c.args.bytes.now c.decode-unit.ensures c.disconnect-step.ensures c.finish.ensures
+    completes_exports disconnect 0 c.args.bytes.now c.decode.ensures c.disconnect-step.ensures c.finish.ensures

@@ -6,8 +6,8 @@ use Rattle.firmware.proofs.tag_frame.Goals as goal
 
 pub finish-requires : goal.finish-requires
 finish-requires c =
-    answers_whole frame (length c.args.answer.now) c.args.bytes.now c.decode-unit.ensures c.advertise-step.ensures
+    answers_whole frame (length c.args.answer.now) c.args.bytes.now c.decode.ensures c.advertise-step.ensures
 
 pub returns : goal.returns
 returns c =
-    answers_exports frame (length c.args.answer.now) c.args.bytes.now c.decode-unit.ensures c.advertise-step.ensures c.finish.ensures
+    answers_exports frame (length c.args.answer.now) c.args.bytes.now c.decode.ensures c.advertise-step.ensures c.finish.ensures

@@ -17,6 +17,6 @@ finish-requires c =
 
 pub returns : goal.returns
 returns c =
-    let known = rw (to_z-of_z c.ranges.power) at c.new_unit-step.ensures in
+    let known = rw (to_z-of_z c.ranges.power) at c.new_unit.ensures in
     rw (eq-eqb _ _ c.if-bytes-ne-RECORD_SIZE.false)
     (exported known (new_untimed c.args.power c.args.components c.args.selectable) c.finish.ensures)

@@ -7,8 +7,8 @@ use Rattle.firmware.proofs.tag_pairing.Goals as goal
 
 pub finish-requires : goal.finish-requires
 finish-requires c =
-    completes_whole (pairing (not (eqb c.args.on 0))) 0 c.args.bytes.now c.decode-unit.ensures c.pairing-step.ensures
+    completes_whole (pairing (not (eqb c.args.on 0))) 0 c.args.bytes.now c.decode.ensures c.pairing-step.ensures
 
 pub returns : goal.returns
 returns c =
-    completes_exports (pairing (not (eqb c.args.on 0))) 0 c.args.bytes.now c.decode-unit.ensures c.pairing-step.ensures c.finish.ensures
+    completes_exports (pairing (not (eqb c.args.on 0))) 0 c.args.bytes.now c.decode.ensures c.pairing-step.ensures c.finish.ensures

@@ -6,8 +6,8 @@ use Rattle.firmware.proofs.tag_read.Goals as goal
 
 pub finish-requires : goal.finish-requires
 finish-requires c =
-    answers_whole (read c.args.nonce.now) (length c.args.answer.now) c.args.bytes.now c.decode-unit.ensures c.read-step.ensures
+    answers_whole (read c.args.nonce.now) (length c.args.answer.now) c.args.bytes.now c.decode.ensures c.read-step.ensures
 
 pub returns : goal.returns
 returns c =
-    answers_exports (read c.args.nonce.now) (length c.args.answer.now) c.args.bytes.now c.decode-unit.ensures c.read-step.ensures c.finish.ensures
+    answers_exports (read c.args.nonce.now) (length c.args.answer.now) c.args.bytes.now c.decode.ensures c.read-step.ensures c.finish.ensures

@@ -4,10 +4,10 @@ use native.Mathlib.Nat.{zero-add}
 use Rattle.firmware.proofs.Sleeping.{exports_until, exports_refused}
 use Rattle.firmware.proofs.tag_sleep.Goals as goal
 
-pub returns-in-Until : goal.returns-in-Until
-returns-in-Until c =
-    rw c.decode-unit.ensures at (exports_until c.sleep_until-sleep.ensures c.in-Until.is _ (c.with_tenths.ensures ∙ zero-add _))
+pub returns-in-Ok : goal.returns-in-Ok
+returns-in-Ok c =
+    rw c.decode.ensures at (exports_until c.sleep_until.ensures c.in-Ok.is _ (c.with_tenths.ensures ∙ zero-add _))
 
-pub returns-in-Refused : goal.returns-in-Refused
-returns-in-Refused c =
-    rw c.decode-unit.ensures at (exports_refused c.sleep_until-sleep.ensures c.in-Refused.is _ c.refusal_code.ensures)
+pub returns-in-Err : goal.returns-in-Err
+returns-in-Err c =
+    rw c.decode.ensures at (exports_refused c.sleep_until.ensures c.in-Err.is _ c.refusal_code.ensures)

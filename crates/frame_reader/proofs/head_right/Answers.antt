@@ -7,9 +7,6 @@ use Rattle.frame_reader.specs.Reader.{first_wrong}
 use Rattle.frame_reader.proofs.Claims.{wrong_within}
 use Rattle.frame_reader.proofs.head_right.Goals as goal
 
-pub loop-at-init : goal.loop-at-init
-loop-at-init c = omega arith
-
 pub returns-then-text-at : goal.returns-then-text-at
 returns-then-text-at c =
     omega (arith, wrong_within c.args.size c.args.text.now)
@@ -17,12 +14,6 @@ returns-then-text-at c =
 pub returns-then-not-right : goal.returns-then-not-right
 returns-then-not-right c =
     omega (arith, ltb-false c.loop-at.at (first_wrong c.args.size c.args.text.now) (refuted c.right.ensures c.if-not-right.true))
-
-pub overflow_add-at : goal.overflow_add-at
-overflow_add-at c = omega arith
-
-pub loop-at-smaller : goal.loop-at-smaller
-loop-at-smaller c = omega arith
 
 pub loop-at-preserved : goal.loop-at-preserved
 loop-at-preserved c =

@@ -1,9 +1,6 @@
-use Prim.Native.Nat.{◌≤◌, ◌-◌}
+use Prim.Native.Nat.{◌≤◌}
 use Rattle.frame_reader.specs.Reader.{first_wrong}
 use Rattle.frame_reader.proofs.head_right.Given as goal
 
 abbrev pub invariant-loop-at : goal.invariant-loop-at
-invariant-loop-at l = (l.at ≤ 8) × (l.at ≤ first_wrong l.size l.text)
-
-abbrev pub decreases-loop-at : goal.decreases-loop-at
-decreases-loop-at l = 8 - l.at
+invariant-loop-at l = l.at ≤ first_wrong l.size l.text

@@ -5,12 +5,12 @@ use Rattle.frame_text.proofs.Lines.{longer_by, too_long}
 use borrow.Author.Rules.{rules}
 use Rattle.frame_text.proofs.longer.Goals as goal
 
-pub returns-then-count-lt-LONGEST_LINE : goal.returns-then-count-lt-LONGEST_LINE
-returns-then-count-lt-LONGEST_LINE c =
+pub returns-then-line-lt-LONGEST_LINE : goal.returns-then-line-lt-LONGEST_LINE
+returns-then-line-lt-LONGEST_LINE c =
     let room : length c.args.line.bytes ≡ 256 = search rules in
-    longer_by c.args.line room c.args.byte c.if-count-lt-LONGEST_LINE.true
+    longer_by c.args.line room c.args.byte c.if-line-lt-LONGEST_LINE.true
 
-pub returns : goal.returns
-returns c =
+pub returns-else-line-lt-LONGEST_LINE : goal.returns-else-line-lt-LONGEST_LINE
+returns-else-line-lt-LONGEST_LINE c =
     let room : length c.args.line.bytes ≡ 256 = search rules in
-    too_long c.args.line room c.args.byte c.if-count-lt-LONGEST_LINE.false
+    too_long c.args.line room c.args.byte c.if-line-lt-LONGEST_LINE.false

@@ -4,14 +4,14 @@ use Rattle.frame_text.proofs.told.Goals as goal
 
 pub refused-requires : goal.refused-requires
 refused-requires c =
-    wrong_small c.args.frame.now c.read-scanned.result c.read-scanned.ensures _ c.in-WrongByte.is
+    wrong_small c.args.frame.now c.read.result c.read.ensures _ c.in-Err.is
 
-pub returns-in-WrongByte : goal.returns-in-WrongByte
-returns-in-WrongByte c =
-    rw (wrong_read c.args.frame.now c.read-scanned.result c.read-scanned.ensures _ c.in-WrongByte.is)
+pub returns-in-Err : goal.returns-in-Err
+returns-in-Err c =
+    rw (wrong_read c.args.frame.now c.read.result c.read.ensures _ c.in-Err.is)
     c.refused.ensures
 
-pub returns-in-Frame : goal.returns-in-Frame
-returns-in-Frame c =
-    rw (frame_read c.args.frame.now c.read-scanned.result c.read-scanned.ensures _ _ c.in-Frame.is)
+pub returns-in-Ok : goal.returns-in-Ok
+returns-in-Ok c =
+    rw (frame_read c.args.frame.now c.read.result c.read.ensures _ c.in-Ok.is)
     c.parts.ensures

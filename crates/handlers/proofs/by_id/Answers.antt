@@ -4,6 +4,7 @@ use Rattle.authentication.proofs.Judged.{denial, judged_with}
 use mathlib.Core.Path.{refl}
 use Rattle.write_shape.proofs.Shaped.{key_inside, ring_inside}
 use Rattle.handlers.specs.ById.{by_id}
+use Rattle.unit.specs.declared.Refusal.{Refusal}
 use Rattle.wire.specs.Shape.{request}
 use Rattle.handlers.proofs.by_id.Goals as goal
 
@@ -57,7 +58,7 @@ pub returns-in_default : goal.returns-in_default
 returns-in_default c =
     let known = c.args in
     let other = c.in_default.in_default-own.rest in
-    denial known.u known.h.id c.denied.ensures
+    denial known.u known.h.id Refusal.InvalidValue
     (chosen_none known.u (request known.h known.additional.now) known.reach other.0.0.0.0.0.0.0.0.1 other.0.0.0.0.0.0.0.1
     other.0.0.0.0.0.0.1 other.0.0.0.0.0.1 other.0.0.0.0.1 other.0.0.0.1 other.0.0.1 other.0.1
     other.1)

@@ -1,39 +1,21 @@
--- `hmac_sha256_parts` meets its contract: a size that a test found wrong, of a part or of the whole, refuses, and the code is given.
+-- `hmac_sha256_parts` meets its contract: a size that the test found wrong refuses, and the code is given.
 use mathlib.Core.List.{◌++◌}
 use native.Mathlib.Omega.{arith}
 use borrow.Author.Rules.{rules}
 use Rattle.hash_calls.proofs.Answered.{length_three, authenticated_refused, authenticated_given}
 use Rattle.hash_calls.proofs.hmac_sha256_parts.Goals as goal
+use Rattle.hash_calls.proofs.hmac_sha256_parts.Goals.{then-key-gt-LONGEST-via-then-key-gt-LONGEST, then-key-gt-LONGEST-via-else-key-gt-LONGEST+then-message-gt-LONGEST}
 
 pub returns-then-key-gt-LONGEST : goal.returns-then-key-gt-LONGEST
 returns-then-key-gt-LONGEST c =
     let a = c.args in
-    authenticated_refused a.key.now (a.head.now ++ (a.tail.now ++ a.last.now)) a.answer.now
-    (λ k m. omega (arith, length_three a.head.now a.tail.now a.last.now))
-
-pub returns-then-head-gt-LONGEST : goal.returns-then-head-gt-LONGEST
-returns-then-head-gt-LONGEST c =
-    let a = c.args in
-    authenticated_refused a.key.now (a.head.now ++ (a.tail.now ++ a.last.now)) a.answer.now
-    (λ k m. omega (arith, length_three a.head.now a.tail.now a.last.now))
-
-pub returns-then-tail-gt-LONGEST : goal.returns-then-tail-gt-LONGEST
-returns-then-tail-gt-LONGEST c =
-    let a = c.args in
-    authenticated_refused a.key.now (a.head.now ++ (a.tail.now ++ a.last.now)) a.answer.now
-    (λ k m. omega (arith, length_three a.head.now a.tail.now a.last.now))
-
-pub returns-then-last-gt-LONGEST : goal.returns-then-last-gt-LONGEST
-returns-then-last-gt-LONGEST c =
-    let a = c.args in
-    authenticated_refused a.key.now (a.head.now ++ (a.tail.now ++ a.last.now)) a.answer.now
-    (λ k m. omega (arith, length_three a.head.now a.tail.now a.last.now))
-
-pub returns-then-head-tail-gt-LONGEST : goal.returns-then-head-tail-gt-LONGEST
-returns-then-head-tail-gt-LONGEST c =
-    let a = c.args in
-    authenticated_refused a.key.now (a.head.now ++ (a.tail.now ++ a.last.now)) a.answer.now
-    (λ k m. omega (arith, length_three a.head.now a.tail.now a.last.now))
+    authenticated_refused a.key.now (a.head.now ++ (a.tail.now ++ a.last.now)) a.answer.now _
+    (λ k m.
+    elim c.then-key-gt-LONGEST.branch [
+      | then-key-gt-LONGEST-via-then-key-gt-LONGEST w ↦ omega (arith, w.if-key-gt-LONGEST.true)
+      | then-key-gt-LONGEST-via-else-key-gt-LONGEST+then-message-gt-LONGEST w ↦
+          omega (arith, w.if-message-gt-LONGEST.true, length_three a.head.now a.tail.now a.last.now)
+    ])
 
 pub returns : goal.returns
 returns c =

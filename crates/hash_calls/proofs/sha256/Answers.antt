@@ -10,7 +10,7 @@ use Rattle.hash_calls.proofs.sha256.Goals as goal
 pub returns-then-message-gt-LONGEST : goal.returns-then-message-gt-LONGEST
 returns-then-message-gt-LONGEST c =
     let a = c.args in
-    hashed_refused a.message.now a.answer.now (λ m. omega arith)
+    hashed_refused a.message.now a.answer.now _ (λ m. omega arith)
 
 pub returns : goal.returns
 returns c =

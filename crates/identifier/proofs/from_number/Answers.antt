@@ -1,8 +1,9 @@
 -- `identifier::from_number` meets its contract: of r's 32 bytes the lowest 20 are its own, and all are zero exactly for r = 0.
-use mathlib.Core.Path.{◌≡◌, ap, ◌∙◌}
-use mathlib.Core.Bool.{not}
+use mathlib.Core.Path.{◌≡◌, sym, ap, ◌∙◌}
+use mathlib.Core.Bool.{Bool, not}
 use mathlib.Core.List.{List}
-use Prim.Native.Nat.{ℕ, ◌%◌, ◌^◌, ◌<◌}
+use lib.Dec.{eqb}
+use Prim.Native.Nat.{ℕ, ◌-◌, ◌%◌, ◌^◌, ◌<◌}
 use native.Mathlib.Nat.{mod-lt, lt_of_lt_of_le}
 use native.Mathlib.Omega.{arith}
 use lib.Dec.{lit≤}
@@ -25,20 +26,32 @@ lowest bytes r e =
     let low : drop 12 bytes ≡ big_endian 20 r = ap (drop 12) e ∙ drop_big_endian 12 20 r in
     rw low (take_all 20 (big_endian 20 r) (omega (arith, length_big_endian 20 r)))
 
-pub slice_bounds-twenty-end : goal.slice_bounds-twenty-end
-slice_bounds-twenty-end c =
+-- all its bytes are zero exactly for r = 0
+zero_is : (bytes : List ℕ) (n : ℕ) {zeros answer : Bool} → bytes ≡ big_endian 32 (n % SECP160R1.n) → zeros ≡ all_zero bytes → zeros ≡ answer
+    → not answer ≡ not (eqb (n % SECP160R1.n) 0)
+zero_is bytes n e z is = ap not (sym is ∙ z ∙ ap all_zero e ∙ zero_big_endian 32 (n % SECP160R1.n) (fits n))
+
+pub slice_bounds-array-end : goal.slice_bounds-array-end
+slice_bounds-array-end c =
     let m = c.secp160r1-m in
     let long : length m.result.r ≡ 32 = ap length m.ensures.scalar ∙ simp length_big_endian in
     omega arith
+
+pub returns-then-all_zero : goal.returns-then-all_zero
+unfolding scalar
+returns-then-all_zero c =
+    let m = c.secp160r1-m in
+    record { some_is = zero_is m.result.r (number c.args.number) m.ensures.scalar c.all_zero.ensures c.if-all_zero.true; r_is = tt; id_is = tt }
 
 pub returns : goal.returns
 unfolding scalar aligned identifier_by SECP160R1
 returns c =
     let m = c.secp160r1-m in
-    let n : ℕ = number c.args.number in
-    let r : ℕ = n % SECP160R1.n in
+    let r : ℕ = number c.args.number % SECP160R1.n in
+    let long : length m.result.r ≡ 32 = ap length m.ensures.scalar ∙ simp length_big_endian in
+    let rest : length m.result.r - 12 ≡ 20 = omega arith in
     record {
-      some_is = ap not (c.all_zero-some.ensures ∙ ap all_zero m.ensures.scalar ∙ zero_big_endian 32 r (fits n));
-      r_is = c.twenty.ensures ∙ lowest m.result.r r m.ensures.scalar;
+      some_is = zero_is m.result.r (number c.args.number) m.ensures.scalar c.all_zero.ensures c.if-all_zero.false;
+      r_is = (rw rest at c.array.ensures) ∙ lowest m.result.r r m.ensures.scalar;
       id_is = m.ensures.side;
     }

@@ -8,4 +8,4 @@ pub returns : goal.returns
 returns c =
     let a = c.args in
     let e : a.at + 16 - a.at ≡ 16 = omega arith in
-    rw e at c.sixteen.ensures
+    rw e at c.array.ensures

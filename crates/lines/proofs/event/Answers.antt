@@ -2,29 +2,17 @@
 use mathlib.Core.Path.{◌∙◌}
 use Rattle.lines.specs.Lines.{taken, named}
 use Rattle.notation.specs.Text.{ascii}
-use Rattle.lines.proofs.KeyedLines.{key_fits, keyed_line, unkeyed_line}
+use Rattle.lines.proofs.KeyedLines.{keyed, unkeyed}
 use Rattle.lines.proofs.event.Goals as goal
 
-pub slice_bounds-named-count : goal.slice_bounds-named-count
-slice_bounds-named-count c =
-    let known = c.args in
-    key_fits (ascii "event=") known.line.now c.begins.ensures c.if-begins.true
-
-pub slice_bounds-named-start : goal.slice_bounds-named-start
-slice_bounds-named-start c =
-    let known = c.args in
-    key_fits (ascii "event=") known.line.now c.begins.ensures c.if-begins.true
-
-pub returns-then-begins : goal.returns-then-begins
+pub returns-in_err-strip_prefix : goal.returns-in_err-strip_prefix
 unfolding taken
-returns-then-begins c =
-    record {
-      line_is =
-          λ p n kept m b.
-          c.named.ensures.line_is p n kept m b
-          ∙ keyed_line (ascii "event=") c.args.line.now c.begins.ensures named c.if-begins.true;
-    }
+returns-in_err-strip_prefix c =
+    rw c.from_residual.ensures
+    (record { line_is = λ p n k m b. unkeyed (ascii "event=") c.args.line.now named c.in_err-strip_prefix.ensures.cases })
 
 pub returns : goal.returns
 unfolding taken
-returns c = record { line_is = λ p n kept m b. unkeyed_line (ascii "event=") c.args.line.now c.begins.ensures named c.if-begins.false }
+returns c =
+    let found = c.in_ok-strip_prefix.ensures.cases in
+    record { line_is = λ p n k m b. c.named.ensures.line_is p n k m b ∙ keyed (ascii "event=") c.args.line.now found.0 found.1 named }

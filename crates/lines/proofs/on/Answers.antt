@@ -4,24 +4,24 @@ use Rattle.events.specs.Event.{asks}
 use Rattle.reading.specs.Reading.{flag}
 use Rattle.lines.specs.Lines.{held, given, brings}
 use Rattle.notation.specs.Text.{ascii}
-use Rattle.reading.specs.Values.{switch_of}
-use Rattle.lines.proofs.KeyedLines.{key_fits, unkeyed_line, value_line_lem}
+use Rattle.lines.proofs.KeyedLines.{unkeyed, no_value, with_value}
 use Rattle.lines.proofs.on.Goals as goal
 
-pub returns-then-not-begins : goal.returns-then-not-begins
+pub returns-in_err-value : goal.returns-in_err-value
 unfolding held
-returns-then-not-begins c = record { line_is = λ p n k m b. unkeyed_line (ascii "on=") c.args.line.now c.begins.ensures (λ v. given (flag v) (λ x. brings (asks (pairing x)))) c.if-not-begins.true }
+returns-in_err-value c =
+    rw c.from_residual.ensures
+    (record { line_is = λ p n k m b. unkeyed (ascii "on=") c.args.line.now (λ v. given (flag v) (λ x. brings (asks (pairing x)))) c.in_err-value.ensures.cases })
 
-pub slice_bounds-flag-count : goal.slice_bounds-flag-count
-slice_bounds-flag-count c = key_fits (ascii "on=") c.args.line.now c.begins.ensures c.if-not-begins.false
-
-pub slice_bounds-flag-start : goal.slice_bounds-flag-start
-slice_bounds-flag-start c = key_fits (ascii "on=") c.args.line.now c.begins.ensures c.if-not-begins.false
-
-pub returns-in-Value : goal.returns-in-Value
+pub returns-in_err-flag : goal.returns-in_err-flag
 unfolding held
-returns-in-Value c = record { line_is = λ p n k m b. value_line_lem (ascii "on=") c.args.line.now c.begins.ensures switch_of flag (λ x. brings (asks (pairing x))) c.if-not-begins.false c.flag.ensures c.in-Value.is }
+returns-in_err-flag c =
+    let found = c.in_ok-value.ensures.cases in
+    rw c.from_residual-in_err-flag.ensures
+    (record { line_is = λ p n k m b. no_value (ascii "on=") c.args.line.now found.0 found.1 flag (λ x. brings (asks (pairing x))) c.in_err-flag.ensures })
 
-pub returns-in-Wrong : goal.returns-in-Wrong
+pub returns : goal.returns
 unfolding held
-returns-in-Wrong c = record { line_is = λ p n k m b. value_line_lem (ascii "on=") c.args.line.now c.begins.ensures switch_of flag (λ x. brings (asks (pairing x))) c.if-not-begins.false c.flag.ensures c.in-Wrong.is }
+returns c =
+    let found = c.in_ok-value.ensures.cases in
+    record { line_is = λ p n k m b. with_value (ascii "on=") c.args.line.now found.0 found.1 flag (λ x. brings (asks (pairing x))) c.in_ok-flag.field-0 c.in_ok-flag.ensures }

@@ -6,26 +6,30 @@ use mir.Val.{to_z, of_z}
 use Rattle.reading.specs.Reading.{signed}
 use Rattle.lines.specs.Lines.{held, given, follows, components}
 use Rattle.notation.specs.Text.{ascii}
-use Rattle.reading.specs.Values.{signed_numeral_of}
-use Rattle.lines.proofs.KeyedLines.{key_fits, unkeyed_line, value_line_lem}
+use Rattle.lines.proofs.KeyedLines.{unkeyed, no_value, with_value}
 use Rattle.lines.proofs.power.Goals as goal
 
-pub returns-then-not-begins : goal.returns-then-not-begins
+pub returns-in_err-value : goal.returns-in_err-value
 unfolding held
-returns-then-not-begins c = record { line_is = λ p n k m b. unkeyed_line (ascii "power=") c.args.line.now c.begins.ensures (λ v. given (signed v) (λ x. follows (components x))) c.if-not-begins.true }
+returns-in_err-value c =
+    rw c.from_residual.ensures
+    (record { line_is = λ p n k m b. unkeyed (ascii "power=") c.args.line.now (λ v. given (signed v) (λ x. follows (components x))) c.in_err-value.ensures.cases })
 
-pub slice_bounds-signed-count : goal.slice_bounds-signed-count
-slice_bounds-signed-count c = key_fits (ascii "power=") c.args.line.now c.begins.ensures c.if-not-begins.false
-
-pub slice_bounds-signed-start : goal.slice_bounds-signed-start
-slice_bounds-signed-start c = key_fits (ascii "power=") c.args.line.now c.begins.ensures c.if-not-begins.false
-
-pub returns-in-Value : goal.returns-in-Value
+pub returns-in_err-signed : goal.returns-in_err-signed
 unfolding held
-returns-in-Value c =
-    let kept : to_z w32 (of_z w32 c.in-Value.p) ≡ c.in-Value.p = search rules in
-    record { line_is = λ p n k m b. ap (λ (z : _). follows (components z)) kept ∙ value_line_lem (ascii "power=") c.args.line.now c.begins.ensures signed_numeral_of signed (λ x. follows (components x)) c.if-not-begins.false c.signed.ensures c.in-Value.is }
+returns-in_err-signed c =
+    let found = c.in_ok-value.ensures.cases in
+    rw c.from_residual-in_err-signed.ensures
+    (record { line_is = λ p n k m b. no_value (ascii "power=") c.args.line.now found.0 found.1 signed (λ x. follows (components x)) c.in_err-signed.ensures })
 
-pub returns-in-Wrong : goal.returns-in-Wrong
+pub returns : goal.returns
 unfolding held
-returns-in-Wrong c = record { line_is = λ p n k m b. value_line_lem (ascii "power=") c.args.line.now c.begins.ensures signed_numeral_of signed (λ x. follows (components x)) c.if-not-begins.false c.signed.ensures c.in-Wrong.is }
+returns c =
+    let found = c.in_ok-value.ensures.cases in
+    let kept : to_z w32 (of_z w32 c.in_ok-signed.field-0) ≡ c.in_ok-signed.field-0 = search rules in
+    record {
+      line_is =
+          λ p n k m b.
+          ap (λ (z : _). follows (components z)) kept
+          ∙ with_value (ascii "power=") c.args.line.now found.0 found.1 signed (λ x. follows (components x)) c.in_ok-signed.field-0 c.in_ok-signed.ensures;
+    }

@@ -8,7 +8,7 @@ use Rattle.limbs.specs.Limbs.{over, value}
 use Rattle.limbs.proofs.Limbs.{over_none}
 use Rattle.modular.proofs.Reduced.{reduced}
 use Rattle.modular.proofs.reduce_once.Goals as goal
-use Rattle.modular.proofs.reduce_once.Goals.{then-top-eq0+else-less, else-top-eq0}
+use Rattle.modular.proofs.reduce_once.Goals.{else-top-eq0-via-then-top-eq0+else-less, else-top-eq0-via-else-top-eq0}
 
 pub returns-then-less : goal.returns-then-less
 returns-then-less c =
@@ -20,8 +20,8 @@ pub returns : goal.returns
 returns c =
     let a = c.args in
     let s = c.subtract in
-    reduced a.t.now s.new.t a.m.now (λ i. (c.slice_known-2-1.given i).fits) (λ i. (c.shared_slice_known-1.given i).fits) (omega arith) (omega arith)
-    a.top s.result (omega arith) (λ z. elim c.if-top-eq0.branch [
-      | then-top-eq0+else-less w ↦ ltb-false (value a.t.now) (value a.m.now) (sym w.less.ensures ∙ w.if-less.false)
-      | else-top-eq0 w ↦ absurd (w.if-top-eq0.false z)
+    reduced a.t.now s.new.t a.m.now (λ i. (c.type_inv.t i).fits) (λ i. (c.type_inv.m i).fits) (omega arith) (omega arith)
+    a.top s.result (omega arith) (λ z. elim c.else-top-eq0.branch [
+      | else-top-eq0-via-then-top-eq0+else-less w ↦ ltb-false (value a.t.now) (value a.m.now) (sym w.less.ensures ∙ w.if-less.false)
+      | else-top-eq0-via-else-top-eq0 w ↦ absurd (w.if-top-eq0.false z)
     ]) s.ensures.0 s.ensures.1

@@ -5,7 +5,7 @@ use mathlib.Core.List.{◌++◌}
 use Prim.Native.Nat.{◌*◌, ◌≤◌, ◌<◌}
 use native.Mathlib.Omega.{arith}
 use lib.ListN.{length, drop}
-use borrow.Author.Tests.{ltb-true, lt-ltb}
+use borrow.Author.Tests.{ltb-true, lt-ltb, not-true, not-false}
 use Rattle.laws.specs.Bytes.{all_zero}
 use Rattle.laws.proofs.Flags.{granted, refuted, and_left, and_right, both, fails, agree, clash}
 use Rattle.sizes.specs.Sizes.{nonce_size, earlier_room, most_nonces}
@@ -32,22 +32,22 @@ by_tests n newest rest count tests held =
 pub returns-then-n-gt-MOST_NONCES : goal.returns-then-n-gt-MOST_NONCES
 returns-then-n-gt-MOST_NONCES c = sym (fails _ (λ e. omega (arith, (nonces_lines c.args.n e).count)))
 
-pub returns-then-not-rows_legal : goal.returns-then-not-rows_legal
-unfolding issued_nonces
-returns-then-not-rows_legal c =
+pub returns-then-not-n : goal.returns-then-not-n
+returns-then-not-n c =
     let n = c.args.n in
-    let broken = refuted (rw c.table.ensures.0 at c.rows_legal.ensures) c.if-not-rows_legal.true in
-    sym (fails _ (λ e. clash (both (nonces_lines n e).different (nonces_lines n e).spare) broken))
+    let tests = granted (rw c.table.ensures.0 at c.rows_legal.ensures) c.if-rows_legal.true in
+    rw c.if-not-n.true (sym (nonces_legal_lem n (by_tests n c.table.ensures.1 c.table.ensures.2 (omega arith) tests (λ live. absurd (clash live (not-true _ c.if-not-n.true))))))
 
-pub returns-then-n : goal.returns-then-n
-returns-then-n c =
+pub returns-else-not-n : goal.returns-else-not-n
+returns-else-not-n c =
     let n = c.args.n in
-    let tests = granted (rw c.table.ensures.0 at c.rows_legal.ensures) c.if-not-rows_legal.false in
+    let tests = granted (rw c.table.ensures.0 at c.rows_legal.ensures) c.if-rows_legal.true in
     agree _ _ (λ e. nonces_legal_lem n (by_tests n c.table.ensures.1 c.table.ensures.2 (omega arith) tests (λ live. ltb-true 0 _ e)))
-    (λ e. lt-ltb 0 _ ((nonces_lines n e).held c.if-n.true))
+    (λ e. lt-ltb 0 _ ((nonces_lines n e).held (not-false _ c.if-not-n.false)))
 
-pub returns : goal.returns
-returns c =
+pub returns-else-rows_legal : goal.returns-else-rows_legal
+unfolding issued_nonces
+returns-else-rows_legal c =
     let n = c.args.n in
-    let tests = granted (rw c.table.ensures.0 at c.rows_legal.ensures) c.if-not-rows_legal.false in
-    sym (nonces_legal_lem n (by_tests n c.table.ensures.1 c.table.ensures.2 (omega arith) tests (λ live. absurd (clash live c.if-n.false))))
+    let broken = refuted (rw c.table.ensures.0 at c.rows_legal.ensures) c.if-rows_legal.false in
+    rw c.if-rows_legal.false (sym (fails _ (λ e. clash (both (nonces_lines n e).different (nonces_lines n e).spare) broken)))

@@ -1,6 +1,6 @@
 -- `octets::same` meets its contract: nothing gathered so far and the bytes from `i` on together decide.
 use Prim.Native.Nat.{◌+◌}
-use mathlib.Core.Path.{refl, sym, ap, ◌∙◌}
+use mathlib.Core.Path.{sym, ap, ◌∙◌}
 use mathlib.Core.Bool.{Bool, ◌&&◌}
 use native.Mathlib.Omega.{arith}
 use lib.Dec.{eqb}
@@ -13,42 +13,22 @@ use Rattle.octets.proofs.same.Goals as goal
 pub returns-then-a-b : goal.returns-then-a-b
 returns-then-a-b c = sym (lengths_differ _ _ c.if-a-b.true)
 
-pub loop-i-init : goal.loop-i-init
-loop-i-init c = (c.if-a-b.false, (omega arith, refl))
-
-pub bounds-a-i : goal.bounds-a-i
-bounds-a-i c = omega arith
-
-pub bounds-b-i : goal.bounds-b-i
-bounds-b-i c = omega arith
-
-pub overflow_add-i : goal.overflow_add-i
-overflow_add-i c = omega arith
-
-pub loop-i-smaller : goal.loop-i-smaller
-loop-i-smaller c = omega arith
-
 pub loop-i-preserved : goal.loop-i-preserved
 loop-i-preserved c =
-    let known = c.args in
-    let a = known.a.now in
-    let b = known.b.now in
+    let a = c.args.a.now in
+    let b = c.args.b.now in
     let turn = c.loop-i in (
       turn.invariant.0,
-      (
-        omega arith,
-        turn.invariant.1.1
-            ∙ ap (λ (t : Bool). eqb turn.difference 0 && t) (same_from a b turn.i (omega arith) (omega arith))
-            ∙ sym (and_assoc (eqb turn.difference 0) (eqb (get_or a turn.i 0) (get_or b turn.i 0)) _)
-            ∙ ap (λ (t : Bool). t && same_bytes (drop (turn.i + 1) a) (drop (turn.i + 1) b)) (sym (gathered turn.difference (get_or a turn.i 0) (get_or b turn.i 0))),
-      ),
+      turn.invariant.1
+          ∙ ap (λ (t : Bool). eqb turn.difference 0 && t) (same_from a b turn.i (omega arith) (omega arith))
+          ∙ sym (and_assoc (eqb turn.difference 0) (eqb (get_or a turn.i 0) (get_or b turn.i 0)) _)
+          ∙ ap (λ (t : Bool). t && same_bytes (drop (turn.i + 1) a) (drop (turn.i + 1) b)) (sym (gathered turn.difference (get_or a turn.i 0) (get_or b turn.i 0))),
     )
 
 pub returns : goal.returns
 returns c =
-    let known = c.args in
     let turn = c.loop-i in
     sym
-    (turn.invariant.1.1
-    ∙ ap (λ (t : Bool). eqb turn.difference 0 && t) (same_end known.a.now known.b.now turn.i (omega arith) (omega arith))
+    (turn.invariant.1
+    ∙ ap (λ (t : Bool). eqb turn.difference 0 && t) (same_end c.args.a.now c.args.b.now turn.i (omega arith) (omega arith))
     ∙ and_true (eqb turn.difference 0))

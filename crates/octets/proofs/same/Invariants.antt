@@ -1,4 +1,3 @@
-use Prim.Native.Nat.{◌≤◌, ◌-◌}
 use mathlib.Core.Path.{◌≡◌}
 use mathlib.Core.Bool.{◌&&◌}
 use lib.Dec.{eqb}
@@ -8,7 +7,4 @@ use Rattle.octets.proofs.same.Given as goal
 
 abbrev pub invariant-loop-i : goal.invariant-loop-i
 invariant-loop-i l =
-    (length l.a ≡ length l.b) × ((l.i ≤ length l.a) × (same_bytes l.a l.b ≡ eqb l.difference 0 && same_bytes (drop l.i l.a) (drop l.i l.b)))
-
-abbrev pub decreases-loop-i : goal.decreases-loop-i
-decreases-loop-i l = length l.a - l.i
+    (length l.a ≡ length l.b) × (same_bytes l.a l.b ≡ eqb l.difference 0 && same_bytes (drop l.i l.a) (drop l.i l.b))

@@ -8,6 +8,7 @@ use Prim.Native.Nat.{ℕ}
 use lib.ListN.{length, drop, replicate}
 use native.Mathlib.Omega.{arith}
 use mir.Facts.{to_z-of_z}
+use Rattle.laws.proofs.BigEndian.{four_bytes}
 use borrow.Author.Rules.{rules}
 use Rattle.parameter_read.proofs.plain.Goals as goal
 
@@ -16,7 +17,7 @@ unfolding parameters
 returns c =
     let whole : List ℕ = replicate 16 0 in
     let power : List ℕ = c.wire_byte.result ∷ [] in
-    let clock : List ℕ = c.four-clock.result in
+    let clock : List ℕ = c.to_be_bytes-clock.result in
     let rest : List ℕ = 0x00 ∷ c.args.s.components ∷ c.args.s.selectable ∷ [] in
     let n : length clock ≡ 4 = search rules in
     let one : c.put.new.to ≡ power ++ drop 1 whole
@@ -28,4 +29,4 @@ returns c =
     all
     ∙ append_assoc (power ++ clock) rest (replicate 8 0)
     ∙ ap₂ (λ (b : ℕ) (l : List ℕ). b ∷ l ++ (rest ++ replicate 8 0)) (c.wire_byte.ensures ∙ ap wire_byte (to_z-of_z (legal_fits c.args.s.power c.requires)))
-    c.four-clock.ensures
+    (c.to_be_bytes-clock.ensures ∙ four_bytes _)

@@ -7,11 +7,6 @@ use mathlib.Core.Path.{◌≡◌, sym}
 use native.Mathlib.Omega.{arith}
 use Rattle.pieces.proofs.end_line.Goals as goal
 
-pub slice_bounds-line-end : goal.slice_bounds-line-end
-slice_bounds-line-end c =
-    let long : length c.args.s.line ≡ 256 = search rules in
-    omega (arith, c.requires.0.bounded.within_line)
-
 pub slice_bounds-close-end : goal.slice_bounds-close-end
 slice_bounds-close-end c =
     let s = c.args.s in

@@ -2,8 +2,8 @@
 use mathlib.Core.Path.{refl}
 use Rattle.printing.proofs.completed.Goals as goal
 
-pub returns-in-Done : goal.returns-in-Done
-returns-in-Done c = (refl, rw c.in-Done.is c.put.ensures)
+pub returns-in-Ok : goal.returns-in-Ok
+returns-in-Ok c = (refl, rw c.in-Ok.is c.put.ensures)
 
-pub returns-in-Refused : goal.returns-in-Refused
-returns-in-Refused c = (refl, rw c.in-Refused.is c.refused.ensures)
+pub returns-in-Err : goal.returns-in-Err
+returns-in-Err c = (refl, rw c.in-Err.is c.refused.ensures)

@@ -5,11 +5,11 @@ use Rattle.printing.proofs.passed.Goals as goal
 
 pub elapsed-requires : goal.elapsed-requires
 elapsed-requires c =
-    let within = rw c.in-Done.is at c.requires.1.0 in
+    let within = rw c.in-Ok.is at c.requires.1.0 in
     (omega arith, (within, omega arith))
 
-pub returns-in-Done : goal.returns-in-Done
-returns-in-Done c = (refl, rw c.in-Done.is c.elapsed.ensures)
+pub returns-in-Ok : goal.returns-in-Ok
+returns-in-Ok c = (refl, rw c.in-Ok.is c.elapsed.ensures)
 
-pub returns-in-Refused : goal.returns-in-Refused
-returns-in-Refused c = (refl, rw c.in-Refused.is c.refused.ensures)
+pub returns-in-Err : goal.returns-in-Err
+returns-in-Err c = (refl, rw c.in-Err.is c.refused.ensures)

@@ -4,4 +4,4 @@ use Rattle.printing.proofs.refused.Goals as goal
 
 pub returns : goal.returns
 unfolding refused_text
-returns c = rw c.refusal_number.ensures at c.hex_line.ensures
+returns c = rw c.from.ensures at c.hex_line.ensures

@@ -5,7 +5,7 @@ use Rattle.write_shape.proofs.Shaped.{head_inside}
 use Rattle.unit.specs.declared.Refusal.{Refusal}
 use Rattle.unit.proofs.Lines.{lines}
 use Rattle.unit.proofs.Masks.{inside_small}
-use mathlib.Core.Path.{refl, ◌∙◌}
+use mathlib.Core.Path.{◌∙◌}
 use native.Mathlib.Omega.{arith}
 use borrow.Author.Tests.{not-true, not-false}
 use Rattle.requests.proofs.write.Goals as goal
@@ -63,15 +63,11 @@ overflow_cast-reach c =
     (granted c.inside.ensures c.if-not-inside.false) in
     omega (arith, small)
 
-pub by_id-v-requires : goal.by_id-v-requires
-by_id-v-requires c =
+pub by_id-judged-requires : goal.by_id-judged-requires
+by_id-judged-requires c =
     let known = c.args in
     write_ready known.u known.w.now known.reach (granted c.inside.ensures c.if-not-inside.false) c.spent-after.ensures c.head_of-h.ensures c.requires.0
     (granted c.shape_legal.ensures c.if-not-shape_legal.false)
-
-pub conclude-requires : goal.conclude-requires
-conclude-requires c =
-    (c.by_id-v.ensures.data_fit, c.requires.1)
 
 pub returns : goal.returns
 returns c =
@@ -81,4 +77,4 @@ returns c =
     (not-false _ c.if-not-u.false)
     (key_there_lem known.u known.w.now known.reach (granted c.inside.ensures c.if-not-inside.false) c.spent-after.ensures c.head_of-h.ensures
     c.key_there.ensures ∙ c.if-not-key_there.false))
-    c.by_id-v.ensures (λ j p. c.conclude.ensures _ j refl p)
+    c.by_id-judged.ensures c.conclude.ensures

@@ -1,6 +1,7 @@
 -- `ringing::read_sound` meets its contract, an end each.
 use Rattle.authentication.proofs.Judged.{denial, grant}
 use Rattle.laws.proofs.Flags.{granted, refuted}
+use Rattle.unit.specs.declared.Refusal.{Refusal}
 use Rattle.wire.specs.Shape.{request}
 use native.Mathlib.Omega.{arith}
 use Rattle.ringing.proofs.Rings.{sound_untagged, sound_read_lem}
@@ -12,7 +13,7 @@ tagged-requires c =
 
 pub returns-then-not-tagged : goal.returns-then-not-tagged
 returns-then-not-tagged c =
-    denial c.args.u c.args.h.id c.denied.ensures
+    denial c.args.u c.args.h.id Refusal.NotAuthenticated
     (sound_untagged c.args.u (request c.args.h c.args.additional.now) (refuted (c.tagged.ensures _ c.derived_key-key.ensures) c.if-not-tagged.true))
 
 pub returns : goal.returns

@@ -2,6 +2,7 @@
 use Rattle.authentication.proofs.Judged.{denial, judged_with}
 use Rattle.laws.proofs.Flags.{granted, refuted}
 use Rattle.unit.proofs.Lines.{lines}
+use Rattle.unit.specs.declared.Refusal.{Refusal}
 use Rattle.wire.specs.Shape.{request}
 use native.Mathlib.Omega.{arith}
 use Rattle.ringing.proofs.Rings.{ring_kept_out, ring_values_lem, ring_rung}
@@ -13,7 +14,7 @@ let_through-requires c =
 
 pub returns-then-not-let_through : goal.returns-then-not-let_through
 returns-then-not-let_through c =
-    denial c.args.u c.args.h.id c.denied.ensures
+    denial c.args.u c.args.h.id Refusal.NotAuthenticated
     (ring_kept_out c.args.u (request c.args.h c.args.additional.now) c.args.reach (refuted c.let_through.ensures c.if-not-let_through.true))
 
 pub ring_mask-ring-requires : goal.ring_mask-ring-requires
@@ -26,7 +27,7 @@ ring_legal-requires c =
 
 pub returns-then-not-ring_legal : goal.returns-then-not-ring_legal
 returns-then-not-ring_legal c =
-    denial c.args.u c.args.h.id c.denied-then-not-ring_legal.ensures
+    denial c.args.u c.args.h.id Refusal.InvalidValue
     (ring_values_lem c.args.u (request c.args.h c.args.additional.now) c.args.reach (granted c.let_through.ensures c.if-not-let_through.false) (refuted c.ring_legal.ensures c.if-not-ring_legal.true))
 
 pub returns : goal.returns

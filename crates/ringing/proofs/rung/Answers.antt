@@ -7,7 +7,7 @@ use Rattle.ringing.proofs.rung.Goals as goal
 pub returns-in-Started : goal.returns-in-Started
 returns-in-Started c =
     grant c.args.u ring_id _ c.requires c.granted.ensures
-    (rung_ring c.args.u c.args.volume c.args.left c.in-Started.is c.with_sound.ensures c.notice_data-started.ensures)
+    (rung_ring c.args.u c.args.volume c.args.left c.in-Started.is c.with_sound-after.ensures c.notice_data-started.ensures)
 
 pub returns-in-Stopped : goal.returns-in-Stopped
 returns-in-Stopped c =

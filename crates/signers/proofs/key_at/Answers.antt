@@ -11,11 +11,11 @@ row-requires c =
     let l = accounts_lines c.args.a c.requires.0 in
     (omega (arith, held_count c.args.a, c.requires.1), omega (arith, l.room, l.count))
 
-pub sixteen-requires : goal.sixteen-requires
+pub array-requires : goal.array-requires
 unfolding held_keys
-sixteen-requires c =
-    ap length c.row.ensures ∙ key_length_lem c.args.a c.args.place (accounts_lines c.args.a c.requires.0) c.requires.1
+array-requires c =
+    (omega arith, ap length c.row.ensures ∙ key_length_lem c.args.a c.args.place (accounts_lines c.args.a c.requires.0) c.requires.1)
 
 pub returns : goal.returns
 unfolding held_keys
-returns c = c.sixteen.ensures ∙ c.row.ensures
+returns c = c.array.ensures ∙ c.row.ensures

@@ -1,11 +1,8 @@
--- `state_read::owns` meets its contract, a case of the owner each.
-use Rattle.state_read.proofs.Judging.{owner_none, owner_is_lem}
+-- `state_read::owns` meets its contract: a place is the owner's where its key is.
+use mathlib.Core.Path.{refl, ◌∙◌}
+use Rattle.state_read.proofs.Judging.{owner_test}
 use Rattle.state_read.proofs.owns.Goals as goal
 
-pub returns-in-Nobody : goal.returns-in-Nobody
-returns-in-Nobody c =
-    owner_none c.args.a c.args.place c.requires.0.0 c.requires.1 c.in-Nobody.is
-
-pub returns-in-Place : goal.returns-in-Place
-returns-in-Place c =
-    owner_is_lem c.args.a c.args.place c.requires.0.0 c.requires.1 c.in-Place.p c.in-Place.is c.requires.0.1
+pub returns : goal.returns
+returns c =
+    c.eq.ensures ∙ owner_test c.args.a c.args.place c.requires.0.0 c.requires.1 c.args.a.owner refl c.requires.0.1

@@ -8,10 +8,10 @@ pub returns-then-bytes-ne-RECORD_SIZE : goal.returns-then-bytes-ne-RECORD_SIZE
 returns-then-bytes-ne-RECORD_SIZE c =
     c.no_unit.ensures ∙ sym (other_length c.args.bytes.now c.if-bytes-ne-RECORD_SIZE.true)
 
-pub returns-then-not-same : goal.returns-then-not-same
-returns-then-not-same c =
-    c.no_unit-then-not-same.ensures ∙ sym (other_bytes c.args.bytes.now c.if-bytes-ne-RECORD_SIZE.false c.fields-u.ensures c.record-again.ensures (refuted c.same.ensures c.if-not-same.true))
+pub returns-else-same : goal.returns-else-same
+returns-else-same c =
+    c.no_unit-else-same.ensures ∙ sym (other_bytes c.args.bytes.now c.if-bytes-ne-RECORD_SIZE.false c.fields-u.ensures c.record.ensures (refuted c.same.ensures c.if-same.false))
 
-pub returns : goal.returns
-returns c =
-    sym (same_bytes_lem c.args.bytes.now c.if-bytes-ne-RECORD_SIZE.false c.fields-u.ensures c.record-again.ensures (granted c.same.ensures c.if-not-same.false))
+pub returns-then-same : goal.returns-then-same
+returns-then-same c =
+    sym (same_bytes_lem c.args.bytes.now c.if-bytes-ne-RECORD_SIZE.false c.fields-u.ensures c.record.ensures (granted c.same.ensures c.if-same.true))

@@ -21,7 +21,7 @@ returns c =
     c.put-5.ensures (omega arith))
     c.put-6.ensures (omega arith))
     c.put-7.ensures (omega arith))
-    c.put_nonce.ensures (omega arith))
+    c.put_bytes.ensures (omega arith))
     c.put-8.ensures (omega arith))
     c.put_tenths.ensures (omega arith))
     c.put_flag.ensures (omega arith))

@@ -6,5 +6,5 @@ use Rattle.stored.proofs.fields.Goals as goal
 pub returns : goal.returns
 unfolding value_of unit_fields
 returns c =
-    rw (c.read-settings.ensures, c.read-clock.ensures, c.read-nonces.ensures, c.read-accounts.ensures, c.read-identity.ensures, c.read-waiting.ensures)
-    (rw (c.read-sound.ensures, c.nonce-ring_nonce.ensures, c.read-protection.ensures, c.tenths-consent.ensures, c.flag-pairing.ensures))
+    rw (c.read.ensures, c.read-2.ensures, c.read-3.ensures, c.read-4.ensures, c.read-5.ensures, c.read-6.ensures)
+    (rw (c.read-7.ensures, c.bytes.ensures, c.read-8.ensures, c.tenths.ensures, c.flag.ensures))

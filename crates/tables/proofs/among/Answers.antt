@@ -1,6 +1,6 @@
 -- `tables::among` meets its contract: at every turn the rows from place `i` on decide.
 use Prim.Native.Nat.{ℕ, ◌<◌}
-use mathlib.Core.Path.{refl, sym, ap, ◌∙◌}
+use mathlib.Core.Path.{sym, ap, ◌∙◌}
 use mathlib.Core.List.{List}
 use native.Mathlib.Omega.{arith}
 use lib.ListN.{length}
@@ -9,12 +9,6 @@ use Rattle.tables.specs.Rows.{rows}
 use Rattle.tables.proofs.Rows.{length_rows, among_next, among_stop, among_end}
 use Rattle.tables.proofs.among.Goals as goal
 
-pub loop-i-init : goal.loop-i-init
-loop-i-init c = (c.requires.0, refl)
-
-pub row-requires : goal.row-requires
-row-requires c = (c.loop-i-test.true, c.requires.1)
-
 pub returns-then-same : goal.returns-then-same
 returns-then-same c =
     let known = c.args in
@@ -22,30 +16,22 @@ returns-then-same c =
     let l : List (List ℕ) = rows known.width known.count known.table.now in
     let there : turn.i < length l = omega (arith, length_rows known.width known.count known.table.now) in
     sym
-    (turn.invariant.1
+    (turn.invariant
     ∙ among_stop l turn.i there known.bytes.now
     (ap (same_bytes known.bytes.now) (sym c.row.ensures) ∙ sym c.same.ensures ∙ c.if-same.true))
-
-pub overflow_add-i : goal.overflow_add-i
-overflow_add-i c = omega arith
-
-pub loop-i-smaller : goal.loop-i-smaller
-loop-i-smaller c = omega arith
 
 pub loop-i-preserved : goal.loop-i-preserved
 loop-i-preserved c =
     let known = c.args in
     let turn = c.loop-i in
     let l : List (List ℕ) = rows known.width known.count known.table.now in
-    let there : turn.i < length l = omega (arith, length_rows known.width known.count known.table.now) in (
-      omega arith,
-      turn.invariant.1
-          ∙ among_next l turn.i there known.bytes.now
-          (ap (same_bytes known.bytes.now) (sym c.row.ensures) ∙ sym c.same.ensures ∙ c.if-same.false),
-    )
+    let there : turn.i < length l = omega (arith, length_rows known.width known.count known.table.now) in
+    turn.invariant
+    ∙ among_next l turn.i there known.bytes.now
+    (ap (same_bytes known.bytes.now) (sym c.row.ensures) ∙ sym c.same.ensures ∙ c.if-same.false)
 
 pub returns : goal.returns
 returns c =
     let known = c.args in
     let turn = c.loop-i in
-    sym (turn.invariant.1 ∙ among_end known.bytes.now _ turn.i (omega (arith, length_rows known.width known.count known.table.now)))
+    sym (turn.invariant ∙ among_end known.bytes.now _ turn.i (omega (arith, length_rows known.width known.count known.table.now)))

@@ -1,7 +1,6 @@
 -- `tables::distinct` meets its contract: going down, the rows from place `i` on are distinct.
 use Prim.Native.Nat.{ℕ, ◌+◌, ◌-◌, ◌<◌}
 use mathlib.Core.Path.{◌≡◌, sym, ap, ◌∙◌}
-use mathlib.Core.Bool.{true}
 use mathlib.Core.List.{List}
 use native.Mathlib.Omega.{arith}
 use lib.ListN.{length, drop}
@@ -12,19 +11,7 @@ use Rattle.tables.proofs.distinct.Goals as goal
 pub loop-i-init : goal.loop-i-init
 loop-i-init c =
     let a = c.args in
-    (omega arith, distinct_end _ a.count (omega (arith, length_rows a.width a.count a.table.now)))
-
-pub overflow_sub-i : goal.overflow_sub-i
-overflow_sub-i c = omega arith
-
-pub row-requires : goal.row-requires
-row-requires c = (omega arith, c.requires)
-
-pub overflow_add-i : goal.overflow_add-i
-overflow_add-i c = omega arith
-
-pub among-requires : goal.among-requires
-among-requires c = (omega arith, c.requires)
+    distinct_end _ a.count (omega (arith, length_rows a.width a.count a.table.now))
 
 pub returns-then-among : goal.returns-then-among
 returns-then-among c =
@@ -36,24 +23,13 @@ returns-then-among c =
     (distinct_stop l (turn.i - 1) there
     (ap (λ (k : List ℕ). among k (drop (turn.i - 1 + 1) l)) (sym c.row.ensures) ∙ sym c.among.ensures ∙ c.if-among.true))
 
-pub loop-i-smaller : goal.loop-i-smaller
-loop-i-smaller c = omega arith
-
 pub loop-i-preserved : goal.loop-i-preserved
 loop-i-preserved c =
     let known = c.args in
     let turn = c.loop-i in
     let l : List (List ℕ) = rows known.width known.count known.table.now in
     let there : turn.i - 1 < length l = omega (arith, length_rows known.width known.count known.table.now) in
-    let next : turn.i - 1 + 1 ≡ turn.i = omega arith in (
-      omega arith,
-      distinct_next l (turn.i - 1) there
-          (ap (λ (k : List ℕ). among k (drop (turn.i - 1 + 1) l)) (sym c.row.ensures) ∙ sym c.among.ensures ∙ c.if-among.false)
-          (rw next turn.invariant.1),
-    )
-
-pub returns : goal.returns
-returns c =
-    let turn = c.loop-i in
-    let none : turn.i ≡ 0 = omega arith in
-    sym (rw none at turn.invariant.1)
+    let next : turn.i - 1 + 1 ≡ turn.i = omega arith in
+    distinct_next l (turn.i - 1) there
+    (ap (λ (k : List ℕ). among k (drop (turn.i - 1 + 1) l)) (sym c.row.ensures) ∙ sym c.among.ensures ∙ c.if-among.false)
+    (rw next turn.invariant)

@@ -1,13 +1,13 @@
--- `tag::battery` meets its contract: a well-formed unit is handed on, another is refused.
+-- `tag::battery` meets its contract: what passes the guards is handed on, and what does not is refused by them.
 use Rattle.tag.specs.Calls.{guarded, call, own}
 use Rattle.tag.proofs.Guards.{formed_own, formed_refuses}
 use Rattle.unit.proofs.Ends.{refused_completes}
 use Rattle.tag.proofs.battery.Goals as goal
 
-pub returns-then-well_formed : goal.returns-then-well_formed
+pub returns-in-Ok : goal.returns-in-Ok
 unfolding guarded call own
-returns-then-well_formed c = rw (formed_own _ c.well_formed-2.ensures _ c.if-well_formed.true) c.told.ensures
+returns-in-Ok c = rw (formed_own _ c.formed.ensures _ c.in-Ok.is) c.told.ensures
 
-pub returns : goal.returns
+pub returns-in-Err : goal.returns-in-Err
 unfolding guarded call own
-returns c = rw (formed_refuses _ c.well_formed-2.ensures _ c.if-well_formed.false) (refused_completes c.refuse.ensures)
+returns-in-Err c = rw (formed_refuses _ c.formed.ensures _ c.in-Err.is) (refused_completes c.refuse.ensures)

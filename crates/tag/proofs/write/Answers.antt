@@ -1,25 +1,16 @@
--- `tag::write` meets its contract: too little room is refused, then a unit that is not well formed, and the rest is handed on.
+-- `tag::write` meets its contract: what passes the guards is handed on, and what does not is refused by them.
 use Rattle.tag.specs.Calls.{guarded, call, own}
-use Rattle.tag.proofs.Guards.{well_formed_lem, answering_no_room, answering_own, answering_refuses}
+use Rattle.tag.proofs.Guards.{answering_own, answering_refuses, ready_passed}
 use Rattle.unit.proofs.Ends.{refused_answers}
 use Rattle.tag.proofs.write.Goals as goal
 
-pub returns-then-answer-lt-ANSWER_ROOM : goal.returns-then-answer-lt-ANSWER_ROOM
-unfolding guarded call own
-returns-then-answer-lt-ANSWER_ROOM c = rw (answering_no_room _ _ _ c.if-answer-lt-ANSWER_ROOM.true) (refused_answers _ c.refuse.ensures)
-
 pub write-requires : goal.write-requires
-write-requires c =
-    (well_formed_lem _ c.well_formed-2.ensures c.if-well_formed.true, c.if-answer-lt-ANSWER_ROOM.false)
+write-requires c = ready_passed _ _ c.ready.ensures c.in-Ok.is
 
-pub returns-then-well_formed : goal.returns-then-well_formed
+pub returns-in-Ok : goal.returns-in-Ok
 unfolding guarded call own
-returns-then-well_formed c =
-    rw (answering_own _ c.well_formed-2.ensures _ _ c.if-answer-lt-ANSWER_ROOM.false c.if-well_formed.true)
-    c.write.ensures
+returns-in-Ok c = rw (answering_own _ _ c.ready.ensures _ c.in-Ok.is) c.write.ensures
 
-pub returns : goal.returns
+pub returns-in-Err : goal.returns-in-Err
 unfolding guarded call own
-returns c =
-    rw (answering_refuses _ c.well_formed-2.ensures _ _ c.if-answer-lt-ANSWER_ROOM.false c.if-well_formed.false)
-    (refused_answers _ c.refuse-2.ensures)
+returns-in-Err c = rw (answering_refuses _ _ c.ready.ensures _ c.in-Err.is) (refused_answers _ c.refuse.ensures)

@@ -4,4 +4,4 @@ use Rattle.time.proofs.later.Goals as goal
 
 pub returns : goal.returns
 unfolding unit_later
-returns c = rw (c.clock_after-clock.ensures, c.consent_after-consent.ensures)
+returns c = rw (c.clock_after.ensures, c.consent_after.ensures)

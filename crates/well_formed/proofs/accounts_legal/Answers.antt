@@ -13,33 +13,33 @@ use Rattle.unit.proofs.Lines.{accounts_lines, accounts_legal_lem}
 use borrow.Author.Rules.{rules}
 use Rattle.well_formed.proofs.accounts_legal.Goals as goal
 
-pub returns-then-count-gt-MOST_KEYS : goal.returns-then-count-gt-MOST_KEYS
-returns-then-count-gt-MOST_KEYS c = sym (fails _ (λ e. omega (arith, (accounts_lines c.args.a e).count)))
+pub returns-then-a-gt-MOST_KEYS : goal.returns-then-a-gt-MOST_KEYS
+returns-then-a-gt-MOST_KEYS c = sym (fails _ (λ e. omega (arith, (accounts_lines c.args.a e).count)))
 
 pub distinct-requires : goal.distinct-requires
 distinct-requires c =
     let long : length c.args.a.keys ≡ keys_room = search rules in
     omega arith
 
-pub returns-then-not-distinct : goal.returns-then-not-distinct
+pub returns-else-distinct : goal.returns-else-distinct
 unfolding held_keys
-returns-then-not-distinct c =
+returns-else-distinct c =
     let a = c.args.a in
-    sym (fails _ (λ e. clash (accounts_lines a e).different (refuted c.distinct.ensures c.if-not-distinct.true)))
+    rw c.if-distinct.false (sym (fails _ (λ e. clash (accounts_lines a e).different (refuted c.distinct.ensures c.if-distinct.false))))
 
-pub slice_bounds-all_zero-end : goal.slice_bounds-all_zero-end
-slice_bounds-all_zero-end c =
+pub slice_bounds-all_zero-count : goal.slice_bounds-all_zero-count
+slice_bounds-all_zero-count c =
     let long : length c.args.a.keys ≡ keys_room = search rules in
     omega arith
 
-pub returns : goal.returns
+pub returns-then-distinct : goal.returns-then-distinct
 unfolding held_keys
-returns c =
+returns-then-distinct c =
     let a = c.args.a in
     let long : length a.keys ≡ keys_room = search rules in
     let spare : List ℕ = drop (a.count * account_key_size) a.keys in
     let all : length spare ≡ keys_room - a.count * account_key_size = omega (arith, length-drop (a.count * account_key_size) a.keys) in
-    let different = granted c.distinct.ensures c.if-not-distinct.false in
+    let different = granted c.distinct.ensures c.if-distinct.true in
     c.all_zero.ensures
     ∙ ap all_zero (take_all (keys_room - a.count * account_key_size) spare (omega arith))
     ∙ agree _ _

@@ -1,15 +1,20 @@
--- `well_formed::identity_legal` meets its contract: what led to each return decides the definition.
-use Rattle.unit.specs.WellFormed.{identity_legal}
+-- `well_formed::identity_legal` meets its contract: with a key the owner decides, and without one the bytes.
+use mathlib.Core.Path.{◌≡◌, refl, ◌∙◌}
+use mathlib.Core.Bool.{Bool, true, false}
+use Rattle.std.specs.Prelude.{Some, None, is_some}
+use Rattle.laws.proofs.Flags.{or_false}
+use Rattle.unit.specs.Types.{Owner}
+use Rattle.unit.specs.WellFormed.{owned, identity_legal}
 use Rattle.well_formed.proofs.identity_legal.Goals as goal
 
-pub returns-in-Nobody : goal.returns-in-Nobody
-unfolding identity_legal
-returns-in-Nobody c = cc
+some_owned : (o : Owner) → is_some o ≡ owned o
+some_owned None = refl
+some_owned (Some p) = refl
 
-pub returns-in-Place : goal.returns-in-Place
+pub returns-then-k : goal.returns-then-k
 unfolding identity_legal
-returns-in-Place c = cc
+returns-then-k c = rw (c.if-k.true, or_false (owned c.args.owner)) (c.is_some.ensures ∙ some_owned c.args.owner)
 
-pub returns : goal.returns
+pub returns-else-k : goal.returns-else-k
 unfolding identity_legal
-returns c = cc
+returns-else-k c = rw c.if-k.false c.all_zero.ensures

@@ -2,10 +2,10 @@
 use Rattle.unit.specs.WellFormed.{owner_legal}
 use Rattle.well_formed.proofs.owner_legal.Goals as goal
 
-pub returns-in-Nobody : goal.returns-in-Nobody
+pub returns-in-None : goal.returns-in-None
 unfolding owner_legal
-returns-in-Nobody c = cc
+returns-in-None c = cc
 
-pub returns-in-Place : goal.returns-in-Place
+pub returns-in-Some : goal.returns-in-Some
 unfolding owner_legal
-returns-in-Place c = rw c.in-Place.is
+returns-in-Some c = rw c.in-Some.is

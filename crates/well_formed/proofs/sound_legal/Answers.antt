@@ -5,7 +5,7 @@ use mathlib.Core.List.{List}
 use mathlib.Core.Path.{◌≡◌, sym, ap, ◌∙◌}
 use native.Mathlib.Omega.{arith}
 use lib.Dec.{leb}
-use borrow.Author.Tests.{leb-true, le-leb}
+use borrow.Author.Tests.{leb-true, le-leb, le-ltb}
 use Rattle.laws.proofs.Flags.{granted, refuted, fails, agree, clash}
 use Rattle.unit.specs.Ringable.{inside}
 use Rattle.unit.specs.WellFormed.{sound_legal}
@@ -48,15 +48,15 @@ returns-then-not-volume_legal c =
     not_legal _ c.in-Ringing.is
     (λ r. clash (volume_legal _ _ r.at_volume) (refuted c.volume_legal.ensures c.if-not-volume_legal.true))
 
-pub returns-then-left-eq0 : goal.returns-then-left-eq0
-returns-then-left-eq0 c = not_legal _ c.in-Ringing.is (λ r. omega (arith, r.least))
+pub returns-else-left-gt0 : goal.returns-else-left-gt0
+returns-else-left-gt0 c = rw (le-ltb 0 c.in-Ringing.left c.if-left-gt0.false) (not_legal _ c.in-Ringing.is (λ r. omega (arith, r.least)))
 
 pub returns-in-Silent : goal.returns-in-Silent
 unfolding sound_legal
 returns-in-Silent c = cc
 
-pub returns-else-left-eq0 : goal.returns-else-left-eq0
-returns-else-left-eq0 c =
+pub returns-then-left-gt0 : goal.returns-then-left-gt0
+returns-then-left-gt0 c =
     let s = c.args.s in
     left_decides _ s c.in-Ringing.is c.if-not-keyed.false c.if-mask-eq0.false
     (granted c.inside.ensures c.if-not-inside.false)

@@ -1,9 +1,7 @@
--- `words::bytes_of` gives the four bytes of a word.
-use native.Mathlib.Nat.{div-div-eq-div-mul}
-use Rattle.laws.specs.Bytes.{big_endian}
+-- `words::bytes_of` gives the four bytes of a word: they are the library's.
+use mathlib.Core.Path.{◌∙◌}
+use Rattle.laws.proofs.BigEndian.{four_bytes}
 use Rattle.words.proofs.bytes_of.Goals as goal
 
 pub returns : goal.returns
-unfolding big_endian
-returns c =
-    simp div-div-eq-div-mul
+returns c = c.to_be_bytes.ensures ∙ four_bytes c.args.w

@@ -6,4 +6,4 @@ use Rattle.words.proofs.state_of.Goals as goal
 
 pub returns : goal.returns
 unfolding bytes_of big_endian
-returns c = simp div-div-eq-div-mul
+returns c = rw (c.to_be_bytes.ensures, c.to_be_bytes-2.ensures, c.to_be_bytes-3.ensures, c.to_be_bytes-4.ensures) (simp div-div-eq-div-mul)

@@ -3,4 +3,4 @@ use Rattle.write_shape.proofs.Shaped.{head_is}
 use Rattle.write_shape.proofs.head_of.Goals as goal
 
 pub returns : goal.returns
-returns c = head_is c.args.w.now c.eight.ensures
+returns c = head_is c.args.w.now c.array.ensures

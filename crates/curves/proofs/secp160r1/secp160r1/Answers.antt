@@ -6,7 +6,4 @@ use Rattle.curves.proofs.secp160r1.secp160r1.Goals as goal
 
 pub returns : goal.returns
 unfolding SECP160R1
-returns c =
-    let d = c.domain in
-    let t = c.times_base-r in
-    t.ensures SECP160R1 valid160 refl d.ensures.0
+returns c = c.times_base.ensures SECP160R1 valid160 refl c.domain.ensures

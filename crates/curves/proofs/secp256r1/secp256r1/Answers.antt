@@ -6,7 +6,4 @@ use Rattle.curves.proofs.secp256r1.secp256r1.Goals as goal
 
 pub returns : goal.returns
 unfolding SECP256R1
-returns c =
-    let d = c.domain in
-    let t = c.times_base-r in
-    t.ensures SECP256R1 valid256 refl d.ensures.0
+returns c = c.times_base.ensures SECP256R1 valid256 refl c.domain.ensures

@@ -1,19 +1,8 @@
--- `hmac::key::filled` appends zeros. The loop's invariant: the first i bytes of the key are in place.
-use mathlib.Core.Path.{refl}
-use native.Mathlib.Omega.{arith}
-use Rattle.laws.proofs.Tabulate.{filled_none, filled_turn}
-use Rattle.hmac.proofs.Keys.{key_copied}
+-- `hmac::key::filled` appends zeros: those of the block that the key leaves.
+use Rattle.hmac.specs.Hmac.{filled}
+use Rattle.std.proofs.lemmas.List.{drop-replicate}
 use Rattle.hmac.proofs.key.filled.Goals as goal
 
-pub loop-i-init : goal.loop-i-init
-loop-i-init c = (omega arith, filled_none _ _)
-
-pub loop-i-preserved : goal.loop-i-preserved
-loop-i-preserved c =
-    let at = c.loop-i in
-    (omega arith, filled_turn _ _ at.block at.i _ 0 (omega arith) at.invariant.1 refl)
-
 pub returns : goal.returns
-returns c =
-    let at = c.loop-i in
-    key_copied _ at.block at.i (omega arith) at.invariant.1
+unfolding filled
+returns c = rw (c.copy_from_slice.ensures.after, drop-replicate)

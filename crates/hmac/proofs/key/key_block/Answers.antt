@@ -7,4 +7,4 @@ returns-then-key-le64 c = short_key _ c.filled.result c.if-key-le64.true c.fille
 
 pub returns : goal.returns
 returns c =
-    long_key _ c.digest-hashed.result c.filled-2.result c.if-key-le64.false c.digest-hashed.ensures c.filled-2.ensures
+    long_key _ c.digest.result c.filled-2.result c.if-key-le64.false c.digest.ensures c.filled-2.ensures

@@ -16,12 +16,12 @@ unfolding keeping
 returns-then-held c =
     rw (eq-eqb _ account_key_size c.if-key-ne-ACCOUNT_KEY_SIZE.false, sym c.held.ensures ∙ c.if-held.true) (done_completes c.accept.ensures)
 
-pub added-more-requires : goal.added-more-requires
-added-more-requires c =
+pub added-accounts-requires : goal.added-accounts-requires
+added-accounts-requires c =
     (c.requires, c.if-key-ne-ACCOUNT_KEY_SIZE.false)
 
 pub returns : goal.returns
 unfolding keeping
 returns c =
     rw (eq-eqb _ account_key_size c.if-key-ne-ACCOUNT_KEY_SIZE.false, sym c.held.ensures ∙ c.if-held.false)
-    (done_completes (rw c.added-more.ensures at c.accept-2.ensures))
+    (done_completes (rw c.added-accounts.ensures at c.accept-2.ensures))

@@ -1,7 +1,7 @@
 -- `plain::add_times` meets its contract: the limbs written, with the carry and what is left of t + x b above them, make the whole.
-use mathlib.Core.Path.{ap, ◌∙◌}
+use mathlib.Core.Path.{ap}
 use Prim.Native.Nat.{ℕ, ◌+◌, ◌*◌}
-use lib.ListN.{drop, length-set}
+use lib.ListN.{drop}
 use Rattle.limbs.specs.Limbs.{over, value}
 use Rattle.limbs.proofs.Limbs.{over_last, value_end}
 use Rattle.limbs.proofs.Turns.{times_turn}
@@ -12,46 +12,16 @@ pub loop-i-init : goal.loop-i-init
 unfolding over
 loop-i-init c = omega arith
 
-pub offset_bounds-t-i : goal.offset_bounds-t-i
-offset_bounds-t-i c = omega arith
-
-pub bounds-t-i : goal.bounds-t-i
-bounds-t-i c = omega arith
-
-pub offset_bounds-b-i : goal.offset_bounds-b-i
-offset_bounds-b-i c = omega arith
-
-pub bounds-b-i : goal.bounds-b-i
-bounds-b-i c = omega arith
-
-pub offset_bounds-t-i-in-loop-i : goal.offset_bounds-t-i-in-loop-i
-offset_bounds-t-i-in-loop-i c = omega arith
-
-pub bounds-t-i-in-loop-i : goal.bounds-t-i-in-loop-i
-bounds-t-i-in-loop-i c = omega arith
-
-pub overflow_add-i : goal.overflow_add-i
-overflow_add-i c = omega arith
-
-pub loop-i-smaller : goal.loop-i-smaller
-loop-i-smaller c = omega arith
-
 pub loop-i-preserved : goal.loop-i-preserved
 loop-i-preserved c =
     let l = c.loop-i in
-    let a = c.args in (
-      omega arith,
-      length-set l.t l.i c.low.result ∙ l.invariant.1,
-      times_turn l.t l.i c.low.result c.high-carry.result c.sum-s.result (omega arith) c.low.ensures c.high-carry.ensures
-          a.b.now a.x l.carry (value a.t.now + a.x * value a.b.now) l.invariant.1 c.sum-s.ensures l.invariant.2,
-    )
-
-pub shape_of-t : goal.shape_of-t
-shape_of-t c = omega arith
+    let a = c.args in
+    times_turn l.t l.i c.low.result c.high-carry.result c.sum-s.result (omega arith) c.low.ensures c.high-carry.ensures
+    a.b.now a.x l.carry (value a.t.now + a.x * value a.b.now) (omega arith) c.sum-s.ensures l.invariant
 
 pub returns : goal.returns
 returns c =
     let l = c.loop-i in
     let a = c.args in
     over_last l.t l.i l.carry (l.carry + value (drop l.i l.t) + a.x * value (drop l.i a.b.now)) (value a.t.now + a.x * value a.b.now)
-    (omega arith) (omega (arith, value_end l.t l.i (omega arith), ap (λ (k : ℕ). a.x * k) (value_end a.b.now l.i (omega arith)))) l.invariant.2
+    (omega arith) (omega (arith, value_end l.t l.i (omega arith), ap (λ (k : ℕ). a.x * k) (value_end a.b.now l.i (omega arith)))) l.invariant

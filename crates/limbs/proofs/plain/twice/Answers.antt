@@ -1,7 +1,6 @@
 -- `plain::twice` meets its contract: the limbs written, with the carry and the double of what is left above them, make the whole.
-use mathlib.Core.Path.{◌∙◌}
 use Prim.Native.Nat.{◌+◌, ◌*◌}
-use lib.ListN.{drop, length-set}
+use lib.ListN.{drop}
 use Rattle.limbs.specs.Limbs.{over, value}
 use Rattle.limbs.proofs.Limbs.{over_last, value_end}
 use Rattle.limbs.proofs.Turns.{twice_turn}
@@ -12,43 +11,16 @@ pub loop-i-init : goal.loop-i-init
 unfolding over
 loop-i-init c = omega arith
 
-pub offset_bounds-t-i : goal.offset_bounds-t-i
-offset_bounds-t-i c = omega arith
-
-pub bounds-t-i : goal.bounds-t-i
-bounds-t-i c = omega arith
-
-pub offset_bounds-t-i-in-loop-i : goal.offset_bounds-t-i-in-loop-i
-offset_bounds-t-i-in-loop-i c = omega arith
-
-pub bounds-t-i-in-loop-i : goal.bounds-t-i-in-loop-i
-bounds-t-i-in-loop-i c = omega arith
-
-pub overflow_add-i : goal.overflow_add-i
-overflow_add-i c = omega arith
-
-pub loop-i-smaller : goal.loop-i-smaller
-loop-i-smaller c =
-    let l = c.loop-i in
-    omega (arith, length-set l.t l.i c.low.result)
-
 pub loop-i-preserved : goal.loop-i-preserved
 loop-i-preserved c =
     let l = c.loop-i in
     let a = c.args in
-    let same = length-set l.t l.i c.low.result in (
-      omega arith,
-      same ∙ l.invariant.1,
-      twice_turn l.t l.i c.low.result c.high-carry.result c.sum-s.result (omega arith) c.low.ensures c.high-carry.ensures
-          l.carry (2 * value a.t.now + a.bit) c.sum-s.ensures l.invariant.2,
-    )
-
-pub shape_of-t : goal.shape_of-t
-shape_of-t c = omega arith
+    twice_turn l.t l.i c.low.result c.high-carry.result c.sum-s.result (omega arith) c.low.ensures c.high-carry.ensures
+    l.carry (2 * value a.t.now + a.bit) c.sum-s.ensures l.invariant
 
 pub returns : goal.returns
 returns c =
     let l = c.loop-i in
     let a = c.args in
     over_last l.t l.i l.carry (l.carry + 2 * value (drop l.i l.t)) (2 * value a.t.now + a.bit)
-    (omega arith) (omega (arith, value_end l.t l.i (omega arith))) l.invariant.2
+    (omega arith) (omega (arith, value_end l.t l.i (omega arith))) l.invariant

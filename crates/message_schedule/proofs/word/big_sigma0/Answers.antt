@@ -1,8 +1,7 @@
--- `message_schedule::word::big_sigma0` is Σ0, by computation.
-use mathlib.Core.Path.{refl}
+-- `message_schedule::word::big_sigma0` is Σ0: its rotations are the library's.
 use Rattle.message_schedule.specs.Schedule.{Σ0}
 use Rattle.message_schedule.proofs.word.big_sigma0.Goals as goal
 
 pub returns : goal.returns
 unfolding Σ0
-returns c = refl
+returns c = cc

@@ -1,52 +1,39 @@
--- `multiple::multiple` meets its contract: after i turns the point is what the binary method has made of the i highest bits, and that is the multiple.
+-- `multiple::multiple` meets its contract: with i bits left the point is what the binary method has made of the bits before them, and that is the multiple.
+use Prim.Native.Nat.{◌≤◌}
 use native.Mathlib.Omega.{arith}
+use lib.ListN.{length}
 use Rattle.limbs.specs.Limbs.{value}
-use Rattle.field.specs.Montgomery.{plain}
+use Rattle.field.specs.Forms.{element}
 use Rattle.field.proofs.Forms.{holds_none}
-use Rattle.addition.proofs.Sums.{held_as}
-use Rattle.points.proofs.Rules.{held_coordinates, held_multiplies, binary_start, binary_turn, binary_end}
+use Rattle.points.proofs.Rules.{held_as, held_coordinates, held_multiplies, binary_start, binary_turn, binary_end}
 use Rattle.points.proofs.multiple.multiple.Goals as goal
 
 pub loop-i-init : goal.loop-i-init
-loop-i-init c =
+loop-i-init g c =
     let a = c.args in
-    let h = c.requires in (
-      omega arith,
-      held_as (record { x = h.3; y = h.3; z = holds_none a.m.now a.inv h.0 })
-          (binary_start (value a.m.now) (plain a.m.now a.inv a.x) (plain a.m.now a.inv a.y) a.bits (value a.r.now)),
-    )
+    let f = a.f.now in
+    held_as (record { x = c.one-x.ensures; y = c.one-x.ensures; z = holds_none f g.row.N (omega arith) })
+    (binary_start (value f.m) (element f a.q.now.x) (element f a.q.now.y) a.bits (value a.r.now))
 
-pub overflow_sub-bits : goal.overflow_sub-bits
-overflow_sub-bits c = omega arith
-
-pub overflow_sub-bits-in-loop-i : goal.overflow_sub-bits-in-loop-i
-overflow_sub-bits-in-loop-i c = omega arith
-
-pub turn-next-requires : goal.turn-next-requires
-turn-next-requires c =
-    let h = c.requires in
-    let j = c.loop-i.invariant.1 in
-    (h.0, h.1, h.2, record { x = j.x.form; y = j.y.form; z = j.z.form }, h.3)
-
-pub overflow_add-i : goal.overflow_add-i
-overflow_add-i c = omega arith
-
-pub loop-i-smaller : goal.loop-i-smaller
-loop-i-smaller c = omega arith
+pub turn-j-requires : goal.turn-j-requires
+turn-j-requires g c =
+    let few : length c.args.f.now.m ≤ 8 = c.args.f.now.field.narrow in
+    let j = c.loop-i.invariant in
+    (omega arith, (omega arith, (omega arith, (record { x = j.x.form; y = j.y.form; z = j.z.form }, c.requires))))
 
 pub loop-i-preserved : goal.loop-i-preserved
-loop-i-preserved c =
+loop-i-preserved g c =
     let a = c.args in
-    let l = c.loop-i in (
-      omega arith,
-      held_as c.turn-next.ensures
-          (binary_turn (value a.m.now) (plain a.m.now a.inv a.x) (plain a.m.now a.inv a.y) a.bits (value a.r.now) l.i c.bit.result
-          (omega arith) (held_coordinates l.invariant.1) c.bit.ensures),
-    )
+    let f = a.f.now in
+    let l = c.loop-i in
+    held_as c.turn-j.ensures
+    (binary_turn (value f.m) (element f a.q.now.x) (element f a.q.now.y) a.bits (value a.r.now) l.i c.bit.result
+    (omega arith) (omega arith) (held_coordinates l.invariant) c.bit.ensures)
 
 pub returns : goal.returns
-returns c =
+returns g c =
     let a = c.args in
+    let f = a.f.now in
     let l = c.loop-i in
     held_multiplies
-    (held_as l.invariant.1 (binary_end (value a.m.now) (plain a.m.now a.inv a.x) (plain a.m.now a.inv a.y) a.bits (value a.r.now) l.i (omega arith)))
+    (held_as l.invariant (binary_end (value f.m) (element f a.q.now.x) (element f a.q.now.y) a.bits (value a.r.now) l.i (omega arith)))

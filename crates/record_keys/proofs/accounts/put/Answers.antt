@@ -12,4 +12,4 @@ returns c =
     puts_then (puts_then (puts_then (puts_none c.args.at c.args.to.now)
     c.put_count.ensures (omega (arith, c.requires)))
     c.put.ensures (omega (arith, c.requires)))
-    c.put_keys.ensures (omega (arith, c.requires))
+    c.put_bytes.ensures (omega (arith, c.requires))

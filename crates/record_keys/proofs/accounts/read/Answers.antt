@@ -6,4 +6,4 @@ use Rattle.record_keys.proofs.accounts.read.Goals as goal
 pub returns : goal.returns
 unfolding value_of accounts_fields
 returns c =
-    rw (c.count-count.ensures, c.read-owner.ensures, c.keys-keys.ensures)
+    rw (c.count.ensures, c.read.ensures, c.bytes.ensures)

@@ -11,4 +11,4 @@ unfolding bytes_of identity_fields
 returns c =
     puts_then (puts_then (puts_none c.args.at c.args.to.now)
     c.put_flag.ensures (omega (arith, c.requires)))
-    c.put_identity_key.ensures (omega (arith, c.requires))
+    c.put_bytes.ensures (omega (arith, c.requires))

@@ -6,4 +6,4 @@ use Rattle.record_keys.proofs.identity.read.Goals as goal
 pub returns : goal.returns
 unfolding value_of identity_fields
 returns c =
-    rw (c.flag-held.ensures, c.identity_key-bytes.ensures)
+    rw (c.flag.ensures, c.bytes.ensures)

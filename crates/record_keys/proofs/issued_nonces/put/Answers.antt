@@ -12,5 +12,5 @@ returns c =
     puts_then (puts_then (puts_then (puts_then (puts_none c.args.at c.args.to.now)
     c.put_byte.ensures (omega (arith, c.requires)))
     c.put_flag.ensures (omega (arith, c.requires)))
-    c.put_nonce.ensures (omega (arith, c.requires)))
-    c.put_earlier_nonces.ensures (omega (arith, c.requires))
+    c.put_bytes.ensures (omega (arith, c.requires)))
+    c.put_bytes-2.ensures (omega (arith, c.requires))

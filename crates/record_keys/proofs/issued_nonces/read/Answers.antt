@@ -6,4 +6,4 @@ use Rattle.record_keys.proofs.issued_nonces.read.Goals as goal
 pub returns : goal.returns
 unfolding value_of nonces_fields
 returns c =
-    rw (c.flag-live.ensures, c.nonce-newest.ensures, c.earlier_nonces-earlier.ensures)
+    rw (c.flag.ensures, c.bytes.ensures, c.bytes-2.ensures)

@@ -7,7 +7,7 @@ use Rattle.record_keys.proofs.owner.read.Goals as goal
 pub returns-then-from-at-eq1 : goal.returns-then-from-at-eq1
 unfolding value_of owner_fields
 returns-then-from-at-eq1 c =
-    rw (eq-eqb _ _ c.if-from-at-eq1.true, c.count-place.ensures)
+    rw (eq-eqb _ _ c.if-from-at-eq1.true, c.count.ensures)
 
 pub returns-else-from-at-eq1 : goal.returns-else-from-at-eq1
 unfolding value_of owner_fields

@@ -6,4 +6,4 @@ use Rattle.record_parts.proofs.clock.read.Goals as goal
 pub returns : goal.returns
 unfolding value_of clock_fields
 returns c =
-    rw c.seconds-seconds.ensures
+    rw c.seconds.ensures

@@ -10,5 +10,5 @@ use Rattle.record_parts.proofs.settings.read.Goals as goal
 pub returns : goal.returns
 unfolding value_of settings_fields
 returns c =
-    let kept : to_z w32 (of_z w32 c.power-power.result) ≡ c.power-power.result = search rules in
-    rw (kept, c.power-power.ensures)
+    let kept : to_z w32 (of_z w32 c.power.result) ≡ c.power.result = search rules in
+    rw (kept, c.power.ensures)

@@ -7,7 +7,7 @@ use Rattle.record_parts.proofs.sound.read.Goals as goal
 pub returns-then-from-at-eq1 : goal.returns-then-from-at-eq1
 unfolding value_of sound_fields
 returns-then-from-at-eq1 c =
-    rw (eq-eqb _ _ c.if-from-at-eq1.true, c.tenths-left.ensures)
+    rw (eq-eqb _ _ c.if-from-at-eq1.true, c.tenths.ensures)
 
 pub returns-else-from-at-eq1 : goal.returns-else-from-at-eq1
 unfolding value_of sound_fields

@@ -1,27 +1,28 @@
--- `rounds::block::full_rounds` meets its contract: n turns of the loop are the first n full rounds.
+-- `rounds::block::full_rounds` meets its contract: before a round, the rounds below it are the first full ones.
 use mathlib.Core.Path.{◌≡◌, sym, ◌∙◌}
-use Prim.Native.Nat.{◌-◌}
+use Prim.Native.Nat.{◌+◌, ◌-◌}
 use native.Mathlib.Omega.{arith}
-use borrow.Author.Rules.{rules}
 use Rattle.words.specs.Words.{bytes_of}
 use Rattle.rounds.specs.Rounds.{rounds}
 use Rattle.rounds.proofs.Rounds.{rounds_zero, rounds_step}
 use Rattle.rounds.proofs.block.full_rounds.Goals as goal
 
-pub loop-n-init : goal.loop-n-init
-loop-n-init c = (search rules, λ block e. e ∙ sym (rounds_zero (bytes_of c.args.keys.now) block))
+pub loop-round-init : goal.loop-round-init
+loop-round-init c = λ block e. e ∙ sym (rounds_zero (bytes_of c.args.keys.now) block)
 
-pub loop-n-preserved : goal.loop-n-preserved
-loop-n-preserved c =
-    let l = c.loop-n in
-    let keys = bytes_of c.args.keys.now in (
-      search rules,
-      λ block e. let r : l.s ≡ rounds keys l.n block = l.invariant.1 block e in cc (rounds_step keys block l.n),
-    )
+pub loop-round-preserved : goal.loop-round-preserved
+loop-round-preserved c = λ block e.
+    let l = c.loop-round in
+    let keys = bytes_of c.args.keys.now in
+    let before : l.s ≡ rounds keys (l.round - 1) block = l.invariant block e in
+    let this : l.round - 1 + 1 ≡ l.round = omega arith in
+    let next : l.round + 1 - 1 ≡ l.round = omega arith in
+    let step = rw this at (rounds_step keys block (l.round - 1)) in
+    rw next (cc)
 
 pub returns : goal.returns
 returns c =
-    let l = c.loop-n in
+    let l = c.loop-round in
     let a = c.args in
-    let all : l.n ≡ a.nr - 1 = omega arith in
-    l.invariant.1 a.block c.add_round_key-s.ensures ∙ rw all
+    let all : l.round ≡ a.nr = omega arith in
+    l.invariant a.block c.add_round_key-s.ensures ∙ rw all

@@ -6,7 +6,6 @@ use mathlib.Core.Path.{refl, sym, ap}
 use mir.Syntax.{w32}
 use mir.Val.{to_z, of_z}
 use native.Mathlib.Omega.{arith}
-use Rattle.session.specs.Feeding.{closed}
 use Rattle.lines.specs.Lines as lines
 use Rattle.lines.specs.declared.Awaited.TheVariants as awaited
 use Rattle.session.proofs.ClosedLines.{keeping, closes_told, closes_moved}
@@ -54,7 +53,3 @@ returns-in-Keeps c =
 
 pub returns-in-Brings : goal.returns-in-Brings
 returns-in-Brings c = closes_told c.args.run c.args.number (take c.args.count c.args.bytes) c.in-Brings.is c.bring.ensures
-
-pub returns-in-Breaks : goal.returns-in-Breaks
-unfolding closed
-returns-in-Breaks c = closes_told c.args.run c.args.number (take c.args.count c.args.bytes) c.in-Breaks.is c.breaks.ensures

@@ -11,5 +11,5 @@ returns c =
       state_is = refl;
       bounded = record { numbered = c.requires.1.numbered; within_kept = c.requires.1.within_kept };
       few = omega (arith, length_malformed known.run.number);
-      puts = c.malformed-written.ensures;
+      puts = c.malformed.ensures;
     }

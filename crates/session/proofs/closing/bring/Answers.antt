@@ -9,11 +9,6 @@ use Rattle.session.proofs.closing.bring.Goals as goal
 
 pub slice_bounds-kept-end : goal.slice_bounds-kept-end
 slice_bounds-kept-end c =
-    let size : length c.args.run.kept ≡ 128 = search rules in
-    omega (arith, c.requires.bounded.within_kept)
-
-pub slice_bounds-perform-end : goal.slice_bounds-perform-end
-slice_bounds-perform-end c =
     let known = c.args.run in
     let size : length known.kept ≡ 128 = search rules in
     sym (length-take-le known.filled known.kept (omega (arith, c.requires.bounded.within_kept)))

@@ -11,9 +11,15 @@ returns-then-run-gt-MOST_LINES c =
     let known = c.args in
     closes_as known.run.number known.run.unit (judged_late known.run known.line.now c.if-run-gt-MOST_LINES.true) c.breaks.ensures
 
+pub returns-in_default : goal.returns-in_default
+unfolding closed
+returns-in_default c =
+    let run = c.args.run in
+    let said = c.in_default.ensures.line_is run.power run.components (take run.filled run.kept) in
+    closes_as run.number run.unit (said ∙ judged_is run c.args.line.now refl c.requires.short c.if-run-gt-MOST_LINES.false) c.breaks-in_default.ensures
+
 pub returns : goal.returns
 returns c =
-    let known = c.args in
-    let run = known.run in
-    let said = c.read-told.ensures.line_is run.power run.components (take run.filled run.kept) in
-    closes_as run.number run.unit (said ∙ judged_is run known.line.now refl c.requires.short c.if-run-gt-MOST_LINES.false) c.act.ensures
+    let run = c.args.run in
+    let said = c.in-Some.ensures.line_is run.power run.components (take run.filled run.kept) in
+    closes_as run.number run.unit (said ∙ judged_is run c.args.line.now refl c.requires.short c.if-run-gt-MOST_LINES.false) c.act.ensures

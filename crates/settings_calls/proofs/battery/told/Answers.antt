@@ -7,8 +7,8 @@ use Rattle.settings_calls.proofs.battery.told.Goals as goal
 
 pub returns-then-level : goal.returns-then-level
 unfolding charged
-returns-then-level c = rw (le-leb _ highest_battery c.if-level.true) (done_completes c.accept.ensures)
+returns-then-level c = rw (lt-leb _ highest_battery c.if-level.true) (refused_completes c.refuse.ensures)
 
 pub returns : goal.returns
 unfolding charged
-returns c = rw (lt-leb _ highest_battery c.if-level.false) (refused_completes c.refuse.ensures)
+returns c = rw (le-leb _ highest_battery c.if-level.false) (done_completes c.accept.ensures)

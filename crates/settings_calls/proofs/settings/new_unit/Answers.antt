@@ -30,24 +30,24 @@ returns-then-selectable-gt1 c =
     let no : settings_legal s ≡ false = fails _ (λ e. omega (arith, (settings_lines s e).selectable)) in
     rw no (refused_completes c.no_unit-then-selectable-gt1.ensures)
 
-pub returns-then-power_legal : goal.returns-then-power_legal
+pub returns-then-not-power_legal : goal.returns-then-not-power_legal
 unfolding new_unit
-returns-then-power_legal c =
+returns-then-not-power_legal c =
     let s = asked c.args.power c.args.components c.args.selectable in
-    let kept = to_z-of_z c.ranges.power in
-    let yes
-    = settings_legal_lem s
-    (record {
-      power = rw kept at (sym c.power_legal.ensures ∙ c.if-power_legal.true);
-      components = c.if-components.false;
-      selectable = c.if-selectable-gt1.false;
-    }) in
-    rw yes (done_completes (rw (c.fresh.ensures, kept) at c.accept.ensures))
+    let beyond = rw (to_z-of_z c.ranges.power) at (sym c.power_legal.ensures ∙ c.if-not-power_legal.true) in
+    let no : settings_legal s ≡ false = fails _ (λ e. clash (settings_lines s e).power beyond) in
+    rw no (refused_completes c.no_unit-then-not-power_legal.ensures)
 
 pub returns : goal.returns
 unfolding new_unit
 returns c =
     let s = asked c.args.power c.args.components c.args.selectable in
-    let beyond = rw (to_z-of_z c.ranges.power) at (sym c.power_legal.ensures ∙ c.if-power_legal.false) in
-    let no : settings_legal s ≡ false = fails _ (λ e. clash (settings_lines s e).power beyond) in
-    rw no (refused_completes c.no_unit-2.ensures)
+    let kept = to_z-of_z c.ranges.power in
+    let yes
+    = settings_legal_lem s
+    (record {
+      power = rw kept at (sym c.power_legal.ensures ∙ c.if-not-power_legal.false);
+      components = c.if-components.false;
+      selectable = c.if-selectable-gt1.false;
+    }) in
+    rw yes (done_completes (rw (c.fresh.ensures, kept) at c.accept.ensures))

@@ -1,29 +1,27 @@
 -- `substitution::lookup::look_up` meets its contract: the loop puts the entries in front, one a turn.
-use mathlib.Core.Path.{◌≡◌, refl, sym, ◌∙◌}
+use mathlib.Core.Path.{◌≡◌, ap, sym, ◌∙◌}
+use lib.ListN.{get_or, length}
 use native.Mathlib.Omega.{arith}
 use borrow.Author.Rules.{rules}
-use mir.Syntax.{w8}
-use mir.Val.{Fits}
-use lib.ListN.{get_or}
-use Rattle.laws.proofs.Tabulate.{filled_none, filled_turn, filled_all}
+use Rattle.laws.proofs.Tabulate.{filled_none, filled_turn, filled_all, filled_rest}
 use Rattle.substitution.proofs.Maps.{map_tabulate}
 use Rattle.substitution.proofs.lookup.look_up.Goals as goal
 
-pub loop-i-init : goal.loop-i-init
-loop-i-init c = (omega arith, filled_none _ _)
+pub loop-b-init : goal.loop-b-init
+loop-b-init c = filled_none _ _
 
-pub bounds-table-s : goal.bounds-table-s
-bounds-table-s c =
-    let f : Fits w8 (get_or c.args.s c.loop-i.i 0) = search rules in f.fits
-
-pub loop-i-preserved : goal.loop-i-preserved
-loop-i-preserved c =
-    let at = c.loop-i in
-    (omega arith, filled_turn _ _ at.out at.i _ 0 (omega arith) at.invariant.1 refl)
+pub loop-b-preserved : goal.loop-b-preserved
+loop-b-preserved c =
+    let at = c.loop-b in
+    let a = c.args in
+    let here : get_or at.b-items at.b-index 0 ≡ get_or a.s at.b-index 0
+    = ap (λ l. get_or l at.b-index 0) at.invariant ∙ filled_rest _ a.s at.b-index at.b-index 0 (omega arith) in
+    filled_turn _ a.s at.b-items at.b-index _ 0 (omega arith) at.invariant (ap (λ b. get_or a.table.now b 0) here)
 
 pub returns : goal.returns
 returns c =
-    let at = c.loop-i in
+    let at = c.loop-b in
     let a = c.args in
-    let e : at.i ≡ 16 = omega arith in
-    rw e at (at.invariant.1 ∙ filled_all _ _ at.i e) ∙ sym (map_tabulate _ a.s 16 (search rules))
+    let sixteen : length a.s ≡ 16 = search rules in
+    let e : at.b-index ≡ 16 = omega arith in
+    rw e at (at.invariant ∙ filled_all _ _ at.b-index (e ∙ sym sixteen)) ∙ sym (map_tabulate _ a.s 16 sixteen)

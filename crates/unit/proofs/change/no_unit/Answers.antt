@@ -5,4 +5,4 @@ use Rattle.unit.proofs.change.no_unit.Goals as goal
 
 pub returns : goal.returns
 unfolding no_unit
-returns c = ap (with_battery 255) c.fresh-none.ensures
+returns c = ap (with_battery 255) c.fresh.ensures

@@ -6,12 +6,12 @@ use lib.Seq.{length-take-le}
 use borrow.Author.Rules.{rules}
 use Rattle.wire.proofs.signing.first_bytes.Goals as goal
 
-pub slice_bounds-eight-end : goal.slice_bounds-eight-end
-slice_bounds-eight-end c =
+pub slice_bounds-array-end : goal.slice_bounds-array-end
+slice_bounds-array-end c =
     let long : length c.args.d ≡ 32 = search rules in
     sym (length-take-le 8 c.args.d (omega arith))
 
-pub eight-requires : goal.eight-requires
-eight-requires c =
+pub array-requires : goal.array-requires
+array-requires c =
     let long : length c.args.d ≡ 32 = search rules in
-    length-take-le 8 c.args.d (omega arith)
+    (omega arith, length-take-le 8 c.args.d (omega arith))

@@ -1,9 +1,0 @@
--- `frame::plain_flags` meets its contract, by protection on or off.
-use native.Mathlib.Omega.{arith}
-use Rattle.frame.proofs.plain_flags.Goals as goal
-
-pub returns-then-on : goal.returns-then-on
-returns-then-on c = rw c.if-on.true
-
-pub returns : goal.returns
-returns c = rw c.if-on.false (omega arith)

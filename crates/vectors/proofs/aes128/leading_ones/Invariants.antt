@@ -1,8 +1,0 @@
-use Prim.Native.Nat.{◌-◌, ◌≤◌}
-use Rattle.vectors.proofs.aes128.leading_ones.Given as goal
-
-abbrev pub invariant-loop-k : goal.invariant-loop-k
-invariant-loop-k l = l.k ≤ 2048
-
-abbrev pub decreases-loop-k : goal.decreases-loop-k
-decreases-loop-k l = 2048 - l.k

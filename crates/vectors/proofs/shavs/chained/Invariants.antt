@@ -1,8 +1,0 @@
--- `vectors::shavs::chained` is safe and ends: the measure is the digests that are left.
-use Rattle.vectors.proofs.shavs.chained.Given as goal
-
-abbrev pub invariant-loop-left : goal.invariant-loop-left
-invariant-loop-left l = Unit {0}
-
-abbrev pub decreases-loop-left : goal.decreases-loop-left
-decreases-loop-left l = l.left
