@@ -8,7 +8,7 @@ use std::io::Read;
 use std::ops::ControlFlow;
 use std::rt::Files;
 
-// Kept, as in tag_replay: standard input and a file are two types, so one function over both would have to be handed its work twice.
+// Kept, as in tag_replay: no plainer as one function, since standard input and a file are two types: it would be handed its work twice.
 fn main(rt: HostRuntime) {
     if !has_argument(&rt, 1) {
         let mut input = rt.stdin();
@@ -21,7 +21,7 @@ fn main(rt: HostRuntime) {
     }
     let mut path = [0u8; MOST_PATH];
     match argument(&rt, 1, &mut path) {
-        Ok(length) if octets::same(&path[..length], b"--help") => usage(&rt),
+        Ok(length) if &path[..length] == b"--help".as_slice() => usage(&rt),
         Ok(length) => from_path(&rt, &path[..length]),
         Err(why) => fail(&rt, b"path", why),
     }

@@ -27,7 +27,7 @@ pub struct Place {
     pub end: usize,
 }
 
-// Where the value of the first line with a key stands. Kept: the loop goes from line to line, since where a line ends is asked for too.
+// Where the value of the first line with a key stands. Kept: no plainer by a split, since where a line ends in the whole text is asked for.
 pub fn find(text: &[u8], key: &[u8]) -> Option<Place>
     ensures { IfSome result (λ p. (p.start ≤ p.end) × (p.end ≤ length text.now)) }
 {

@@ -24,7 +24,8 @@ pub fn from_descriptor<I: Read>(rt: &(impl Print + Eprint), input: &mut I, name:
     }
 }
 
-// Feeds a piece and writes what it prints, a part of the output at a time. Breaks where the run has ended or the system failed.
+// Feeds a piece and writes what it prints, a part of the output at a time. Breaks where the run has ended or the system failed. Kept: no plainer
+// as a `for`, since the replay says how much of a piece it took.
 pub fn fed(rt: &(impl Print + Eprint), session: &mut Session, piece: &[u8]) -> ControlFlow<()> {
     let mut rest = piece;
     while !rest.is_empty() {

@@ -3,7 +3,7 @@
 // libraries `session_ends` and `replay` (from bytes to bytes) and `replay_file` (reads and writes).
 use program_files::{MOST_PATH, argument, fail, has_argument};
 
-// Kept, as in frame_read: standard input and a file are two types, so one function over both would have to be handed its work twice.
+// Kept, as in frame_read: no plainer as one function, since standard input and a file are two types: it would be handed its work twice.
 fn main(rt: HostRuntime) {
     if !has_argument(&rt, 1) {
         let mut input = rt.stdin();
@@ -16,7 +16,7 @@ fn main(rt: HostRuntime) {
     }
     let mut path = [0u8; MOST_PATH];
     match argument(&rt, 1, &mut path) {
-        Ok(length) if octets::same(&path[..length], b"--help") => usage(&rt),
+        Ok(length) if &path[..length] == b"--help".as_slice() => usage(&rt),
         Ok(length) => replay_file::from_path(&rt, &path[..length]),
         Err(why) => fail(&rt, b"path", why),
     }

@@ -8,6 +8,7 @@ use std::io;
 // What an exported call gives for a refusal, beside its number.
 const REFUSED: u64 = 256;
 
+// Kept: no plainer as closures: a row is data, and prints its call's name beside what the call gives.
 #[derive(Clone, Copy)]
 enum Call {
     Hash,
