@@ -58,19 +58,10 @@ fn handed(rt: &(impl Print + Eprint), line: &mut Line, piece: &[u8]) -> ControlF
     ControlFlow::Continue(())
 }
 
-// Writes a text; by its promise its bytes are there. Says so where it cannot.
+// Writes a text that is not empty; by its promise its bytes are there.
 fn written(rt: &(impl Print + Eprint), text: Text) -> ControlFlow<()> {
     if text.count == 0 {
         return ControlFlow::Continue(());
     }
-    let Some(bytes) = text.bytes.get(..text.count) else {
-        return ControlFlow::Break(());
-    };
-    match rt.write_all(bytes) {
-        Ok(()) => ControlFlow::Continue(()),
-        Err(why) => {
-            fail(rt, b"write", why);
-            ControlFlow::Break(())
-        }
-    }
+    program_files::written(rt, &text.bytes, text.count)
 }

@@ -72,3 +72,18 @@ pub fn each_piece<I: Read, F: FnMut(&[u8]) -> ControlFlow<()>>(
     }
     ControlFlow::Break(())
 }
+
+// Writes the first `count` bytes of a buffer to standard output. Breaks where there are not as many, and where they cannot be written, which standard
+// error then says.
+pub fn written(rt: &(impl Print + Eprint), out: &[u8], count: usize) -> ControlFlow<()> {
+    let Some(bytes) = out.get(..count) else {
+        return ControlFlow::Break(());
+    };
+    match rt.write_all(bytes) {
+        Ok(()) => ControlFlow::Continue(()),
+        Err(why) => {
+            fail(rt, b"write", why);
+            ControlFlow::Break(())
+        }
+    }
+}

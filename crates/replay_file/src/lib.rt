@@ -2,7 +2,7 @@
 // Replays a file to standard output: reads, feeds, writes. What is printed is promised by the libraries `replay` and `session_ends`; no contract
 // can speak of bytes that the system reads or writes. Where the system fails, standard error says so, the answers so far stand, and nothing more is
 // printed: a file that could not be read to its end is not called malformed.
-use program_files::{BUFFER, each_piece, fail, opened};
+use program_files::{BUFFER, each_piece, fail, opened, written};
 use session::Session;
 use std::io::Read;
 use std::ops::ControlFlow;
@@ -24,8 +24,8 @@ pub fn from_descriptor<I: Read>(rt: &(impl Print + Eprint), input: &mut I, name:
     }
 }
 
-// Feeds a piece and writes what it prints, a part of the output at a time. Breaks where the run has ended or the system failed. Kept: no plainer
-// as a `for`, since the replay says how much of a piece it took.
+// Feeds a piece and writes what it prints, a part of the output at a time: by the promise of the replay its bytes are there. Breaks where the run
+// has ended or the system failed. Kept: no plainer as a `for`, since the replay says how much of a piece it took.
 pub fn fed(rt: &(impl Print + Eprint), session: &mut Session, piece: &[u8]) -> ControlFlow<()> {
     let mut rest = piece;
     while !rest.is_empty() {
@@ -46,19 +46,5 @@ pub fn finish(rt: &(impl Print + Eprint), s: Session) {
     let mut out = [0u8; 64];
     if let Some(n) = session_ends::finish(s, &mut out) {
         let _ = written(rt, &out, n);
-    }
-}
-
-// Writes the first bytes of a buffer; by the promise of the replay there are as many. Says so where it cannot.
-fn written(rt: &(impl Print + Eprint), out: &[u8], count: usize) -> ControlFlow<()> {
-    let Some(bytes) = out.get(..count) else {
-        return ControlFlow::Break(());
-    };
-    match rt.write_all(bytes) {
-        Ok(()) => ControlFlow::Continue(()),
-        Err(why) => {
-            fail(rt, b"write", why);
-            ControlFlow::Break(())
-        }
     }
 }
