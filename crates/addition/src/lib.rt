@@ -8,7 +8,7 @@ ghost use Rattle.addition.specs.Affine.{AffineForms};
 
 use doubling::small::twofold;
 use doubling::{Jacobian, double, new_y};
-use field::Prime;
+use field::{Factored, Prime};
 
 // (x, y). The coordinates are in Montgomery's form.
 #[derive(Clone, Copy)]
@@ -63,9 +63,9 @@ fn through<const N: usize>(f: &Prime<N>, h: [u32; N], r: [u32; N], j: Jacobian<N
 }
 
 // q itself, with z = 1
-fn lifted<const N: usize>(f: &Prime<N>, q: &Affine<N>) -> Jacobian<N>
-    requires { AffineForms f.now q.now }
-    ensures { Makes f.now result (λ p v. triple (v q.now.x) (v q.now.y) 1) }
+fn lifted<const N: usize>(f: &Factored<N>, q: &Affine<N>) -> Jacobian<N>
+    requires { AffineForms f.now.prime q.now }
+    ensures { Makes f.now.prime result (λ p v. triple (v q.now.x) (v q.now.y) 1) }
 {
     let Affine { x, y } = *q;
     let z = f.one();
@@ -74,18 +74,19 @@ fn lifted<const N: usize>(f: &Prime<N>, q: &Affine<N>) -> Jacobian<N>
 
 // The sum with q
 #[tactic(auto, unfolding(curve_laws::proofs::Jacobian::added, curve_laws::proofs::Jacobian::add_h, curve_laws::proofs::Jacobian::add_r))]
-pub fn add<const N: usize>(f: &Prime<N>, j: Jacobian<N>, q: &Affine<N>) -> Jacobian<N>
-    requires { Forms f.now j × AffineForms f.now q.now }
-    ensures { Makes f.now result (λ p v. added p (v q.now.x) (v q.now.y) (coordinates f.now j.entry)) }
+pub fn add<const N: usize>(f: &Factored<N>, j: Jacobian<N>, q: &Affine<N>) -> Jacobian<N>
+    requires { Forms f.now.prime j × AffineForms f.now.prime q.now }
+    ensures { Makes f.now.prime result (λ p v. added p (v q.now.x) (v q.now.y) (coordinates f.now.prime j.entry)) }
 {
-    if f.is_zero(j.z) {
+    let p = &f.prime;
+    if p.is_zero(j.z) {
         return lifted(f, q);
     }
-    let zz = f.square(j.z);
-    let h = across(f, q.x, j.x, zz);
-    let r = up(f, q.y, j.y, j.z, zz);
-    if f.is_zero(h) && f.is_zero(r) {
-        return double(f, j);
+    let zz = p.square(j.z);
+    let h = across(p, q.x, j.x, zz);
+    let r = up(p, q.y, j.y, j.z, zz);
+    if p.is_zero(h) && p.is_zero(r) {
+        return double(p, j);
     }
-    through(f, h, r, j)
+    through(p, h, r, j)
 }

@@ -14,7 +14,7 @@ pub record Multiple (c : Curve) (bytes : List ℕ) (size : ℕ) (r x : List ℕ)
 
 -- the numbers of a domain
 abbrev pub prime : {W S : ℕ} → Domain W S → ℕ
-prime d = value d.p.m
+prime d = value d.p.prime.m
 
 abbrev pub order : {W S : ℕ} → Domain W S → ℕ
 order d = value d.n

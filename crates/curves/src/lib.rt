@@ -2,7 +2,7 @@
 // The x coordinate of r times the base point of a curve: SECP160R1 and SECP256R1 of SEC 2, as two uses of functions over the curve.
 ghost use Rattle.curves.specs.Parameters.{Usable};
 
-use field::Prime;
+use field::Factored;
 
 pub mod base;
 pub mod secp160r1;
@@ -12,13 +12,13 @@ pub mod secp256r1;
 // the inverse, and S of the order n of the base point (x, y). Every number below n has so many bits.
 #[derive(Clone, Copy)]
 pub struct Domain<const W: usize, const S: usize> {
-    pub p: Prime<W>,
+    pub p: Factored<W>,
     pub exponent: [u32; W],
     pub x: [u32; W],
     pub y: [u32; W],
     pub n: [u32; S],
     pub bits: usize,
-    pub ghost usable: { Usable p.m exponent x y n },
+    pub ghost usable: { Usable p.prime.m exponent x y n },
 }
 
 // A multiple of the base point: r, and the x coordinate in N bytes

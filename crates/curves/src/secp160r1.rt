@@ -5,15 +5,17 @@ ghost use Rattle.curves.specs.Base.{Of};
 
 use super::base::times_base;
 use super::{Domain, Multiple};
-use field::Prime;
+use field::{Factored, Prime};
 
 fn domain() -> Domain<5, 6>
     ensures { Of SECP160R1 result }
 {
     Domain {
-        p: Prime {
-            m: [0x7fffffff, 0xffffffff, 0xffffffff, 0xffffffff, 0xffffffff],
-            inv: 0x80000001,
+        p: Factored {
+            prime: Prime {
+                m: [0x7fffffff, 0xffffffff, 0xffffffff, 0xffffffff, 0xffffffff],
+                inv: 0x80000001,
+            },
             factor: [1, 0x40000001, 0, 0, 0],
         },
         exponent: [0x7ffffffd, 0xffffffff, 0xffffffff, 0xffffffff, 0xffffffff],
@@ -28,5 +30,7 @@ fn domain() -> Domain<5, 6>
 pub fn secp160r1(number: [u8; 32]) -> Multiple<20>
     ensures { base.Multiple SECP160R1 number 20 result.r result.x }
 {
-    times_base(&domain(), number)
+    let mut x = [0; 20];
+    let r = times_base(&domain(), number, &mut x);
+    Multiple { r, x }
 }

@@ -5,15 +5,17 @@ ghost use Rattle.curves.specs.Base.{Of};
 
 use super::base::times_base;
 use super::{Domain, Multiple};
-use field::Prime;
+use field::{Factored, Prime};
 
 fn domain() -> Domain<8, 8>
     ensures { Of SECP256R1 result }
 {
     Domain {
-        p: Prime {
-            m: [0xffffffff, 0xffffffff, 0xffffffff, 0, 0, 0, 1, 0xffffffff],
-            inv: 1,
+        p: Factored {
+            prime: Prime {
+                m: [0xffffffff, 0xffffffff, 0xffffffff, 0, 0, 0, 1, 0xffffffff],
+                inv: 1,
+            },
             factor: [
                 3, 0, 0xffffffff, 0xfffffffb, 0xfffffffe, 0xffffffff, 0xfffffffd, 4,
             ],
@@ -38,5 +40,7 @@ fn domain() -> Domain<8, 8>
 pub fn secp256r1(number: [u8; 32]) -> Multiple<32>
     ensures { base.Multiple SECP256R1 number 32 result.r result.x }
 {
-    times_base(&domain(), number)
+    let mut x = [0; 32];
+    let r = times_base(&domain(), number, &mut x);
+    Multiple { r, x }
 }

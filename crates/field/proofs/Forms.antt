@@ -12,7 +12,7 @@ use lib.Pointwise.{pointwise, bytes_decides}
 use lib.ListN.{length, replicate, set, length-replicate}
 use Rattle.limbs.specs.Limbs.{over, value, Below}
 use Rattle.curve_laws.specs.Modulo.{plus, times, minus}
-use Rattle.field.specs.Montgomery.{shrink, plain, Square}
+use Rattle.field.specs.Montgomery.{shrink, plain, Field, Square}
 use Rattle.field.specs.declared.Prime.{Prime}
 use Rattle.field.specs.Forms.{element, Form, Holds}
 use Rattle.field.proofs.Units.{unit, holds_product, holds_sum, holds_difference, holds_zero, holds_into, holds_out}
@@ -123,3 +123,7 @@ module _ {N : ℕ} (f : Prime N) where
               holds_difference (value f.m) (4294967296 ^ length f.m) (shrink f.m f.inv ^ length f.m) (omega (arith, of-a.less)) (unit f.m f.inv f.field.modulus)
               (value a) (value b) (value t) of-b.less e;
         }
+
+-- only the limbs of 0 hold 0, of a modulus with its constant
+pub zero_limbs : {m a : List ℕ} {inv : ℕ} → Field m inv → Below a m → eqb (plain m inv a) 0 ≡ pointwise eqb a (replicate (length m) 0)
+zero_limbs {m} {a} {inv} h b = sym (zero_test {N = length m} (record { m = m; inv = inv; field = h }) (length m) a refl b)

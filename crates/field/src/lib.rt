@@ -6,13 +6,18 @@ pub mod form;
 pub mod operation;
 pub mod power;
 
-// A prime m of N limbs, at most 8, with the constants of its arithmetic: Montgomery's constant, and the factor that
-// takes a number into its form.
+// A prime m of N limbs, at most 8, with Montgomery's constant.
 #[derive(Clone, Copy)]
 pub struct Prime<const N: usize> {
     pub m: [u32; N],
     pub inv: u32,
-    pub factor: [u32; N],
     pub ghost field: { Field m inv },
-    pub ghost squared: { Square m factor },
+}
+
+// A prime with the factor that takes a number into its form.
+#[derive(Clone, Copy)]
+pub struct Factored<const N: usize> {
+    pub prime: Prime<N>,
+    pub factor: [u32; N],
+    pub ghost squared: { Square prime.m factor },
 }

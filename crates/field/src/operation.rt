@@ -4,7 +4,6 @@ ghost use Rattle.curve_laws.specs.Modulo.{plus, times, minus};
 ghost use Rattle.field.specs.Forms.{element, Form, Gives};
 
 use super::Prime;
-use limbs::plain::less;
 use modular::{add_mod, subtract_mod};
 use montgomery::montgomery;
 
@@ -50,6 +49,7 @@ impl<const N: usize> Prime<N> {
     }
 
     // Whether a is 0
+    #[tactic(auto, using(crate::proofs::Forms::zero_limbs))]
     pub fn is_zero(&self, a: [u32; N]) -> bool
         requires { Form self.now a }
         ensures { result ≡ eqb (element self.now a.entry) 0 }

@@ -4,7 +4,7 @@ ghost use Rattle.limbs.specs.Limbs.{value};
 ghost use Rattle.curve_laws.specs.Modulo as modulo;
 ghost use Rattle.field.specs.Forms.{Form, Gives};
 
-use super::Prime;
+use super::{Factored, Prime};
 use digits::bit;
 
 impl<const N: usize> Prime<N> {
@@ -20,15 +20,17 @@ impl<const N: usize> Prime<N> {
         }
         self.product(twice, a)
     }
+}
 
+impl<const N: usize> Factored<N> {
     // a to the e
     pub fn power(&self, a: [u32; N], e: &[u32]) -> [u32; N]
-        requires { Form self.now a × (length e.now ≤ 8) }
-        ensures { Gives self.now result (λ p v. modulo.power p (v a.entry) (value e.now)) }
+        requires { Form self.now.prime a × (length e.now ≤ 8) }
+        ensures { Gives self.now.prime result (λ p v. modulo.power p (v a.entry) (value e.now)) }
     {
         let mut t = self.one();
         for i in (0..32 * e.len()).rev() {
-            t = self.turn(t, a, bit(e, i));
+            t = self.prime.turn(t, a, bit(e, i));
         }
         t
     }

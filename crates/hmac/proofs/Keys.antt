@@ -1,14 +1,14 @@
 -- The key block of HMAC: how loops fill it and mask it, its length under a mask, and how the two hashes under it make HMAC.
 use mathlib.Core.Path.{◌≡◌, sym, ap, ◌∙◌}
 use mathlib.Core.List.{List, [], ◌++◌, append-nil}
-use Prim.Native.Nat.{ℕ, ◌+◌, ◌-◌, ◌≤◌, ◌<◌}
+use Prim.Native.Nat.{ℕ, zero, suc, ◌+◌, ◌-◌, ◌≤◌, ◌<◌}
 use native.Mathlib.Omega.{arith}
 use native.Mathlib.Decide.{dec_le}
-use lib.ListN.{length, get_or, set, replicate, length-append, length-replicate}
+use lib.ListN.{length, get_or, set, drop, replicate, length-append, length-replicate}
 use borrow.Author.Tests.{le-leb, lt-leb}
 use lib.Bits.{bit_xor}
 use Rattle.laws.specs.Bytes.{◌⊕◌}
-use Rattle.laws.proofs.Tabulate.{filled_to, filled_turn, filled_all, filled_rest}
+use Rattle.laws.proofs.Tabulate.{tabulate_get_or, filled_to, filled_turn, filled_all, filled_rest}
 use Rattle.laws.proofs.Masked.{masked, length_xor}
 use Rattle.hmac.specs.Hmac.{filled, shortened, HMAC}
 use Rattle.padding.specs.Padding.{pad}
@@ -16,6 +16,15 @@ use Rattle.compression.specs.declared.Working.{Working}
 use Rattle.hash.specs.Sha256.{value_after, digest, SHA256}
 use Rattle.hash.proofs.Laws.{length-SHA256}
 use Rattle.hash.proofs.Hashed.{digest_value}
+
+drop_replicate : (n m : ℕ) → drop n (replicate {A = ℕ} m 0) ≡ replicate (m - n) 0
+drop_replicate zero m = let e : m - zero ≡ m = omega arith in rw e
+drop_replicate (suc n) zero = let e : zero - suc n ≡ zero = omega arith in rw e
+drop_replicate (suc n) (suc m) = let e : suc m - suc n ≡ m - n = omega arith in rw e (drop_replicate n m)
+
+pub key_copied : (k v : List ℕ) (i : ℕ) → i ≡ length k → v ≡ filled_to i (λ j. get_or k j 0) (replicate 64 0) → v ≡ filled k
+unfolding filled_to filled
+key_copied k v i e f = rw e at f ∙ rw (tabulate_get_or 0 k, drop_replicate (length k) 64)
 
 abbrev pub mask : List ℕ → ℕ → ℕ → ℕ
 mask b x j = bit_xor (get_or b j 0) x

@@ -15,7 +15,9 @@ fn filled(key: &[u8]) -> [u8; 64]
     ensures { result ≡ rfc.filled key.now }
 {
     let mut block = [0u8; 64];
-    block[..key.len()].copy_from_slice(key);
+    for i in 0..key.len() {
+        block[i] = key[i];
+    }
     block
 }
 

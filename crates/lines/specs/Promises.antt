@@ -57,13 +57,14 @@ count_of (Some t) = t.count
 pub record Means (l : Line) (line : Option told.Line) : Type 0 where
   pub line_is : (p : ℤ) (c : ℕ) (kept : List ℕ) (n : ℕ) (b : List ℕ) → line_or line p c kept n b ≡ l
 
--- the same of one with its bytes, and of one with its number alone
+-- the same of one with its bytes, and of one with its number alone: no bytes stand beside it
 pub record Says (l : ℤ → ℕ → List ℕ → Line) (t : Option Told) (bytes : List ℕ) : Type 0 where
   pub line_is : (p : ℤ) (c : ℕ) (kept : List ℕ) → told_or t p c kept bytes ≡ l p c kept
   pub within_room : count_of t ≤ 128
 
-abbrev pub SaysNumber : (ℤ → ℕ → List ℕ → Line) → Option Told → Type 0
-SaysNumber l t = (bytes : List ℕ) → Says l t bytes
+pub record SaysNumber (l : ℤ → ℕ → List ℕ → Line) (t : Option Told) : Type 0 where
+  pub says : (bytes : List ℕ) → Says l t bytes
+  pub no_bytes : count_of t ≡ 0
 
 -- the line that a value behind a key makes
 module _ {A : Type 0} where

@@ -10,7 +10,9 @@ pub fn put(to: &mut [u8], at: usize, bytes: &[u8])
     requires { at + length bytes.now ≤ length to.old }
     ensures { to.new ≡ pasted to.old at bytes.now }
 {
-    to[at..at + bytes.len()].copy_from_slice(bytes);
+    for i in 0..bytes.len() {
+        to[at + i] = bytes[i];
+    }
 }
 
 // Whether two slices hold the same bytes. Kept: `==` may stop at the first difference, and here every byte is looked at, whatever the others are:
@@ -45,7 +47,7 @@ pub fn array<const N: usize>(s: &[u8]) -> [u8; N]
     ensures { result ≡ s.now }
 {
     let mut bytes = [0u8; N];
-    bytes.copy_from_slice(s);
+    put(&mut bytes, 0, s);
     bytes
 }
 

@@ -11,15 +11,15 @@ ghost use Rattle.points.specs.Multiple.{Multiplies};
 use addition::{Affine, add};
 use digits::bit;
 use doubling::{Jacobian, double};
-use field::Prime;
+use field::Factored;
 
 // One bit more: the double, and the point added where the bit is 1
 #[tactic(auto, unfolding(curve_laws::proofs::Jacobian::turn))]
-fn turn<const N: usize>(f: &Prime<N>, j: Jacobian<N>, q: &Affine<N>, bit: u32) -> Jacobian<N>
-    requires { Forms f.now j × AffineForms f.now q.now }
-    ensures { Makes f.now result (λ p v. jacobian.turn p (v q.now.x) (v q.now.y) bit (coordinates f.now j.entry)) }
+fn turn<const N: usize>(f: &Factored<N>, j: Jacobian<N>, q: &Affine<N>, bit: u32) -> Jacobian<N>
+    requires { Forms f.now.prime j × AffineForms f.now.prime q.now }
+    ensures { Makes f.now.prime result (λ p v. jacobian.turn p (v q.now.x) (v q.now.y) bit (coordinates f.now.prime j.entry)) }
 {
-    let twice = double(f, j);
+    let twice = double(&f.prime, j);
     if bit == 0 {
         return twice;
     }
@@ -27,9 +27,14 @@ fn turn<const N: usize>(f: &Prime<N>, j: Jacobian<N>, q: &Affine<N>, bit: u32) -
 }
 
 // The multiple by the lowest bits of r
-pub fn multiple<const N: usize>(f: &Prime<N>, q: &Affine<N>, r: &[u32], bits: usize) -> Jacobian<N>
-    requires { AffineForms f.now q.now }
-    ensures { Forms f.now result × Multiplies (value f.now.m) (element f.now q.now.x) (element f.now q.now.y) bits (value r.now) (coordinates f.now result) }
+pub fn multiple<const N: usize>(
+    f: &Factored<N>,
+    q: &Affine<N>,
+    r: &[u32],
+    bits: usize,
+) -> Jacobian<N>
+    requires { AffineForms f.now.prime q.now }
+    ensures { Forms f.now.prime result × Multiplies (value f.now.prime.m) (element f.now.prime q.now.x) (element f.now.prime q.now.y) bits (value r.now) (coordinates f.now.prime result) }
 {
     let x = f.one();
     let y = x;
@@ -43,9 +48,9 @@ pub fn multiple<const N: usize>(f: &Prime<N>, q: &Affine<N>, r: &[u32], bits: us
 
 // X / Z^2, by Fermat's power e = p - 2
 #[tactic(auto, unfolding(curve_laws::proofs::Jacobian::affine_x, curve_laws::specs::Modulo::over, curve_laws::specs::Modulo::inverse))]
-pub fn affine_x<const N: usize>(f: &Prime<N>, j: Jacobian<N>, e: &[u32]) -> [u32; N]
-    requires { Forms f.now j × (length e.now ≤ 8) × (value e.now ≡ value f.now.m - 2) }
-    ensures { Gives f.now result (λ p v. affine_x p (coordinates f.now j.entry)) }
+pub fn affine_x<const N: usize>(f: &Factored<N>, j: Jacobian<N>, e: &[u32]) -> [u32; N]
+    requires { Forms f.now.prime j × (length e.now ≤ 8) × (value e.now ≡ value f.now.prime.m - 2) }
+    ensures { Gives f.now.prime result (λ p v. affine_x p (coordinates f.now.prime j.entry)) }
 {
-    f.product(j.x, f.power(f.square(j.z), e))
+    f.prime.product(j.x, f.power(f.prime.square(j.z), e))
 }

@@ -1,5 +1,5 @@
 #![tactic(auto)]
-// What the programs ask of the system beside reading and writing: an argument, the file that a path names, and a message where something failed.
+// What the programs ask of the system: an argument, the file that a path names, its pieces, bytes written, and a message where something failed.
 ghost use Rattle.std.specs.Prelude.{◌≤◌, length, IfOk};
 
 use std::env::FillError;

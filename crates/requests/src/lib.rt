@@ -39,6 +39,9 @@ pub fn write(u: TagUnit, w: &[u8], reach: u32, answer: &mut [u8]) -> Step
     if !key_there(h.id, u.identity.held) {
         return end::refuse(after, Refusal::NotAuthenticated);
     }
-    let judged = handlers::by_id(after, h, &w[HEAD_SIZE..], reach as u8);
-    answering::conclude(after, judged, h.id, answer)
+    let nonce = after.nonces.newest;
+    match handlers::by_id(after, h, &w[HEAD_SIZE..], reach as u8) {
+        Ok(v) => answering::conclude(v, nonce, h.id, answer),
+        Err(refusal) => answering::deny(change::spent(u), refusal),
+    }
 }

@@ -17,11 +17,11 @@ use sizes::ANSWER_ROOM;
 use time::Passed;
 use unit::{Refusal, Step, TagUnit, end};
 
-// The guard of every call: refusal 2 for a unit that is not well formed.
-fn formed(u: TagUnit) -> Result<(), Refusal>
-    ensures { result ≡ formed_guard u }
+// The guard of every call: refusal 2 for a unit that is not well formed. The unit is lent, so that no copy of it stands on the stack for the guards.
+fn formed(u: &TagUnit) -> Result<(), Refusal>
+    ensures { result ≡ formed_guard u.now }
 {
-    if well_formed::well_formed(u) {
+    if well_formed::well_formed(*u) {
         Ok(())
     } else {
         Err(Refusal::NotWellFormed)
@@ -29,8 +29,8 @@ fn formed(u: TagUnit) -> Result<(), Refusal>
 }
 
 // The guards of a call with answer bytes: refusal 6 for too few of them, and then 2.
-fn ready(u: TagUnit, room: usize) -> Result<(), Refusal>
-    ensures { result ≡ ready_guard room u }
+fn ready(u: &TagUnit, room: usize) -> Result<(), Refusal>
+    ensures { result ≡ ready_guard room u.now }
 {
     if room < ANSWER_ROOM {
         return Err(Refusal::NoRoom);
@@ -50,7 +50,7 @@ pub fn new_unit(power: i32, components: u32, selectable: u32) -> Step
 pub fn read(u: TagUnit, lent: &[u8], answer: &mut [u8]) -> Step
     ensures { Answers (call (of.read lent.now) (length answer.old) u) result.unit result.reply answer.old answer.new }
 {
-    match ready(u, answer.len()) {
+    match ready(&u, answer.len()) {
         Ok(()) => read_call::issued(u, lent, answer),
         Err(refusal) => end::refuse(u, refusal),
     }
@@ -61,7 +61,7 @@ pub fn read(u: TagUnit, lent: &[u8], answer: &mut [u8]) -> Step
 pub fn write(u: TagUnit, w: &[u8], reach: u32, answer: &mut [u8]) -> Step
     ensures { Answers (call (of.write (record { bytes = w.now; reach = reach })) (length answer.old) u) result.unit result.reply answer.old answer.new }
 {
-    match ready(u, answer.len()) {
+    match ready(&u, answer.len()) {
         Ok(()) => requests::write(u, w, reach, answer),
         Err(refusal) => end::refuse(u, refusal),
     }
@@ -71,7 +71,7 @@ pub fn write(u: TagUnit, w: &[u8], reach: u32, answer: &mut [u8]) -> Step
 pub fn button(u: TagUnit, answer: &mut [u8]) -> Step
     ensures { Answers (call of.button (length answer.old) u) result.unit result.reply answer.old answer.new }
 {
-    match ready(u, answer.len()) {
+    match ready(&u, answer.len()) {
         Ok(()) => press_call::pressed(u, answer),
         Err(refusal) => end::refuse(u, refusal),
     }
@@ -81,7 +81,7 @@ pub fn button(u: TagUnit, answer: &mut [u8]) -> Step
 pub fn elapsed(u: TagUnit, tenths: u32, answer: &mut [u8]) -> Passed
     ensures { Passes (elapsed_of tenths (length answer.old) u) result.unit result.reply result.ended answer.old answer.new }
 {
-    match ready(u, answer.len()) {
+    match ready(&u, answer.len()) {
         Ok(()) => time::elapse(u, tenths, answer),
         Err(refusal) => time::refused(u, refusal),
     }
@@ -92,7 +92,7 @@ pub fn elapsed(u: TagUnit, tenths: u32, answer: &mut [u8]) -> Passed
 pub fn sleep_until(u: TagUnit) -> Result<u32, Refusal>
     ensures { Sleeps u result }
 {
-    formed(u)?;
+    formed(&u)?;
     Ok(sleep::soonest(u))
 }
 
@@ -100,7 +100,7 @@ pub fn sleep_until(u: TagUnit) -> Result<u32, Refusal>
 pub fn pairing(u: TagUnit, on: bool) -> Step
     ensures { Completes (call (of.pairing on) 0 u) result.unit result.reply }
 {
-    match formed(u) {
+    match formed(&u) {
         Ok(()) => pairing::turned(u, on),
         Err(refusal) => end::refuse(u, refusal),
     }
@@ -110,7 +110,7 @@ pub fn pairing(u: TagUnit, on: bool) -> Step
 pub fn battery(u: TagUnit, level: u32) -> Step
     ensures { Completes (call (of.battery level) 0 u) result.unit result.reply }
 {
-    match formed(u) {
+    match formed(&u) {
         Ok(()) => battery::told(u, level),
         Err(refusal) => end::refuse(u, refusal),
     }
@@ -121,7 +121,7 @@ pub fn battery(u: TagUnit, level: u32) -> Step
 pub fn account_key(u: TagUnit, key: &[u8]) -> Step
     ensures { Completes (call (of.account_key key.now) 0 u) result.unit result.reply }
 {
-    match formed(u) {
+    match formed(&u) {
         Ok(()) => accounts::added(u, key),
         Err(refusal) => end::refuse(u, refusal),
     }
@@ -131,7 +131,7 @@ pub fn account_key(u: TagUnit, key: &[u8]) -> Step
 pub fn disconnect(u: TagUnit) -> Step
     ensures { Completes (call of.disconnect 0 u) result.unit result.reply }
 {
-    match formed(u) {
+    match formed(&u) {
         Ok(()) => end::accept(connection::ended(u), 0),
         Err(refusal) => end::refuse(u, refusal),
     }
@@ -142,7 +142,7 @@ pub fn disconnect(u: TagUnit) -> Step
 pub fn advertise(u: TagUnit, answer: &mut [u8]) -> Step
     ensures { Answers (call of.frame (length answer.old) u) result.unit result.reply answer.old answer.new }
 {
-    match ready(u, answer.len()) {
+    match ready(&u, answer.len()) {
         Ok(()) => advertising::shown(u, answer),
         Err(refusal) => end::refuse(u, refusal),
     }

@@ -11,11 +11,11 @@ returns-in_err-on-in-On c = says_of c.args.line.now c.in-On.is (says_none c.in_e
 
 pub returns-in-Components : goal.returns-in-Components
 unfolding held
-returns-in-Components c = says_of c.args.line.now c.in-Components.is (c.number.ensures c.args.into.now)
+returns-in-Components c = says_of c.args.line.now c.in-Components.is (c.number.ensures.says c.args.into.now)
 
 pub returns-in-Volume : goal.returns-in-Volume
 unfolding held
-returns-in-Volume c = says_of c.args.line.now c.in-Volume.is (c.number-in-Volume.ensures c.args.into.now)
+returns-in-Volume c = says_of c.args.line.now c.in-Volume.is (c.number-in-Volume.ensures.says c.args.into.now)
 
 pub returns-in-Nonce : goal.returns-in-Nonce
 unfolding held
@@ -27,15 +27,15 @@ returns-in-Data c = says_of c.args.line.now c.in-Data.is c.octets-in-Data.ensure
 
 pub returns-in-Reach : goal.returns-in-Reach
 unfolding held
-returns-in-Reach c = says_of c.args.line.now c.in-Reach.is (c.reach.ensures c.args.into.now)
+returns-in-Reach c = says_of c.args.line.now c.in-Reach.is (c.reach.ensures.says c.args.into.now)
 
 pub returns-in-Tenths : goal.returns-in-Tenths
 unfolding held
-returns-in-Tenths c = says_of c.args.line.now c.in-Tenths.is (c.number-in-Tenths.ensures c.args.into.now)
+returns-in-Tenths c = says_of c.args.line.now c.in-Tenths.is (c.number-in-Tenths.ensures.says c.args.into.now)
 
 pub returns-in-Level : goal.returns-in-Level
 unfolding held
-returns-in-Level c = says_of c.args.line.now c.in-Level.is (c.number-in-Level.ensures c.args.into.now)
+returns-in-Level c = says_of c.args.line.now c.in-Level.is (c.number-in-Level.ensures.says c.args.into.now)
 
 pub returns-in-KeyBytes : goal.returns-in-KeyBytes
 unfolding held

@@ -5,7 +5,7 @@ use Rattle.write_shape.proofs.Shaped.{head_inside}
 use Rattle.unit.specs.declared.Refusal.{Refusal}
 use Rattle.unit.proofs.Lines.{lines}
 use Rattle.unit.proofs.Masks.{inside_small}
-use mathlib.Core.Path.{◌∙◌}
+use mathlib.Core.Path.{refl, sym, ◌∙◌}
 use native.Mathlib.Omega.{arith}
 use borrow.Author.Tests.{not-true, not-false}
 use Rattle.requests.proofs.write.Goals as goal
@@ -63,18 +63,31 @@ overflow_cast-reach c =
     (granted c.inside.ensures c.if-not-inside.false) in
     omega (arith, small)
 
-pub by_id-judged-requires : goal.by_id-judged-requires
-by_id-judged-requires c =
+pub by_id-requires : goal.by_id-requires
+by_id-requires c =
     let known = c.args in
     write_ready known.u known.w.now known.reach (granted c.inside.ensures c.if-not-inside.false) c.spent-after.ensures c.head_of-h.ensures c.requires.0
     (granted c.shape_legal.ensures c.if-not-shape_legal.false)
 
-pub returns : goal.returns
-returns c =
+pub returns-in-Ok : goal.returns-in-Ok
+returns-in-Ok c =
     let known = c.args in
     write_judged known.u known.w.now known.reach (granted c.inside.ensures c.if-not-inside.false) c.spent-after.ensures c.head_of-h.ensures c.conclude.result
     (judged_by_id known.u known.w.now known.reach (granted c.shape_legal.ensures c.if-not-shape_legal.false)
     (not-false _ c.if-not-u.false)
     (key_there_lem known.u known.w.now known.reach (granted c.inside.ensures c.if-not-inside.false) c.spent-after.ensures c.head_of-h.ensures
     c.key_there.ensures ∙ c.if-not-key_there.false))
-    c.by_id-judged.ensures c.conclude.ensures
+    (rw c.in-Ok.is at c.by_id.ensures) (λ j p. c.conclude.ensures _ j refl p)
+
+pub returns-in-Err : goal.returns-in-Err
+returns-in-Err c =
+    let known = c.args in
+    write_judged known.u known.w.now known.reach (granted c.inside.ensures c.if-not-inside.false) c.spent-after.ensures c.head_of-h.ensures c.deny.result
+    (judged_by_id known.u known.w.now known.reach (granted c.shape_legal.ensures c.if-not-shape_legal.false)
+    (not-false _ c.if-not-u.false)
+    (key_there_lem known.u known.w.now known.reach (granted c.inside.ensures c.if-not-inside.false) c.spent-after.ensures c.head_of-h.ensures
+    c.key_there.ensures ∙ c.if-not-key_there.false))
+    (rw c.in-Err.is at c.by_id.ensures)
+    (λ j p.
+    let same = c.spent.ensures ∙ sym c.spent-after.ensures in
+    (rw same at c.deny.ensures) c.head_of-h.result.id j known.answer.now p)

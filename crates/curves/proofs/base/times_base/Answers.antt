@@ -1,7 +1,6 @@
 -- `base::times_base` meets its contract.
 use mathlib.Core.Path.{ap, ◌∙◌}
-use Prim.Native.Nat.{ℕ}
-use lib.ListN.{length-replicate}
+use lib.ListN.{length}
 use Rattle.laws.specs.Bytes.{big_endian}
 use Rattle.limbs.specs.Limbs.{value}
 use Rattle.curves.proofs.Domains.{on_curve}
@@ -13,7 +12,7 @@ returns g c =
     let found = c.multiple_x-found in
     λ curve valid three of.
     on_curve curve valid three d of d.usable.order_some
-    c.args.number _ _ g.row.N (value found.result)
-    (c.to_bytes.ensures ∙ ap (big_endian 32) c.scalar-limbs.ensures)
-    (c.to_bytes-2.ensures ∙ ap (λ (k : ℕ). big_endian k (value found.result)) (length-replicate g.row.N 0))
+    c.args.number _ _ (length c.args.x.now) (value found.result)
+    (c.to_bytes-2.ensures ∙ ap (big_endian 32) c.scalar-limbs.ensures)
+    c.to_bytes.ensures
     (rw c.scalar-limbs.ensures at found.ensures.1)

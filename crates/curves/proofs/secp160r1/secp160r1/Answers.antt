@@ -6,4 +6,4 @@ use Rattle.curves.proofs.secp160r1.secp160r1.Goals as goal
 
 pub returns : goal.returns
 unfolding SECP160R1
-returns c = c.times_base.ensures SECP160R1 valid160 refl c.domain.ensures
+returns c = c.times_base-r.ensures SECP160R1 valid160 refl c.domain.ensures

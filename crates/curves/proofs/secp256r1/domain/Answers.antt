@@ -7,11 +7,15 @@ use Rattle.curves.proofs.secp256r1.domain.Goals as goal
 
 pub invariant_of-result : goal.invariant_of-result
 unfolding over value
-invariant_of-result c = record { field = field_by _ _ (tt, tt, tt, tt); squared = square_by _ _ ((tt, tt), tt) }
+invariant_of-result c = record { field = field_by _ _ (tt, tt, tt, tt) }
 
 pub invariant_of-result-2 : goal.invariant_of-result-2
 unfolding over value
-invariant_of-result-2 c = record { usable = usable_by _ _ _ _ _ (tt, (tt, tt), (tt, tt), tt, tt) }
+invariant_of-result-2 c = record { squared = square_by _ _ ((tt, tt), tt) }
+
+pub invariant_of-result-3 : goal.invariant_of-result-3
+unfolding over value
+invariant_of-result-3 c = record { usable = usable_by _ _ _ _ _ (tt, (tt, tt), (tt, tt), tt, tt) }
 
 pub returns : goal.returns
 unfolding over value SECP256R1

@@ -6,4 +6,4 @@ use Rattle.curves.proofs.secp256r1.secp256r1.Goals as goal
 
 pub returns : goal.returns
 unfolding SECP256R1
-returns c = c.times_base.ensures SECP256R1 valid256 refl c.domain.ensures
+returns c = c.times_base-r.ensures SECP256R1 valid256 refl c.domain.ensures

@@ -7,4 +7,4 @@ use Rattle.points.proofs.multiple.multiple.Given as goal
 
 abbrev pub invariant-loop-i : goal.invariant-loop-i
 invariant-loop-i g l =
-    Held l.f l.j (binary (value l.f.m) (element l.f l.q.x) (element l.f l.q.y) (l.bits - l.i) (value l.r / 2 ^ l.i))
+    Held l.f.prime l.j (binary (value l.f.prime.m) (element l.f.prime l.q.x) (element l.f.prime l.q.y) (l.bits - l.i) (value l.r / 2 ^ l.i))
